@@ -1,16 +1,12 @@
 -- What a balance says that the first lines of a journal made.
 use Rattle.std.specs.Prelude.{◌≡◌, List, All, length, map as mapped}
 use Rattle.std.specs.BTreeMap as tree
-use Rattle.std.specs.BTreeSet as sorted
 use Rattle.std.specs.FinMap as map
-use Rattle.dr_base.specs.Texts.{Text, text_cmp}
+use Rattle.dr_base.specs.Texts.{Text}
 use Rattle.dr_ledger.specs.Books.{Line}
-use Rattle.dr_ledger.specs.Pairs.{Pair, pair_cmp}
 use Rattle.dr_ledger.specs.declared.item.Instance.{Instance}
-use Rattle.dr_ledger.specs.declared.item.Progress.{Progress}
 use Rattle.dr_ledger_history.specs.Contents.{Content, all_of}
 use Rattle.dr_ledger_history.specs.Told.{IsTold}
-use Rattle.dr_ledger_history.specs.Trees.{as_map, as_set}
 use Rattle.dr_ledger_balance.specs.declared.balance.Balance.{Balance}
 
 -- an instance under its uid
@@ -25,16 +21,6 @@ content_in b = all_of (map.from_entries (mapped by_uid b.items)) b.arrivals b.ke
 pub record IsBalanceOf (lines : List Line) (b : Balance) : Type 0 where
   pub counted : length lines ≡ b.count
   pub told : IsTold lines (content_in b)
-
--- what trees hold
-abbrev pub held_in : tree.BTreeMap Text Instance → sorted.BTreeSet Pair → sorted.BTreeSet Text
-    → tree.BTreeMap Pair Progress → Content
-held_in items arrivals kept rows = record {
-  items = as_map text_cmp items;
-  arrivals = as_set pair_cmp arrivals;
-  kept = as_set text_cmp kept;
-  rows = as_map pair_cmp rows;
-}
 
 -- each instance of a tree stands under its own uid
 abbrev pub AreUnderTheirUids : tree.BTreeMap Text Instance → Type 0

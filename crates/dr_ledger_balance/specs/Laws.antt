@@ -11,9 +11,10 @@ use Rattle.dr_ledger.specs.declared.item.Cause.TheVariants as cause
 use Rattle.dr_ledger.specs.declared.item.Instance.{Instance}
 use Rattle.dr_ledger.specs.declared.item.Progress.{Progress}
 use Rattle.dr_ledger.specs.declared.item.Progress.TheVariants as progress
+use Rattle.dr_ledger_history.specs.Contents.{held_in}
 use Rattle.dr_ledger_balance.specs.Adding.{AreOrdered, balance_of}
 use Rattle.dr_ledger_balance.specs.Balances.{FitsBalance, IsInOrder, balance_text, body_of}
-use Rattle.dr_ledger_balance.specs.Contents.{AreUnderTheirUids, IsBalanceOf, content_in, held_in}
+use Rattle.dr_ledger_balance.specs.Contents.{AreUnderTheirUids, IsBalanceOf, content_in}
 use Rattle.dr_ledger_balance.specs.Reading.{HasNoBody, Reads}
 use Rattle.dr_ledger_balance.specs.Sealing.{sealed, with_digits}
 use Rattle.dr_ledger_balance.specs.declared.balance.Balance.{Balance}

@@ -5,7 +5,8 @@ ghost use Rattle.std.specs.FinMap.{IsAntisymmetric};
 ghost use Rattle.std.specs.FinSet as set;
 ghost use Rattle.dr_base.specs.Texts.{text_cmp};
 ghost use Rattle.dr_ledger.specs.Pairs.{pair_cmp};
-ghost use Rattle.dr_ledger_balance.specs.Contents.{by_uid, content_in, held_in};
+ghost use Rattle.dr_ledger_balance.specs.Contents.{by_uid, content_in};
+ghost use Rattle.dr_ledger_history.specs.Contents.{held_in};
 ghost use Rattle.dr_ledger_history.specs.Trees.{as_map, as_set};
 
 use crate::balance::Balance;

@@ -2,6 +2,8 @@
 use Rattle.std.specs.Prelude.{◌≡◌, Bool, IsTrue, List, []}
 use Rattle.std.specs.List.Sorted.{IsStrictlySortedBy}
 use Rattle.std.specs.Map.{keys_of}
+use Rattle.std.specs.BTreeMap as tree
+use Rattle.std.specs.BTreeSet as sorted
 use Rattle.std.specs.FinMap as map
 use Rattle.std.specs.FinMap.{FinMap}
 use Rattle.std.specs.FinSet as set
@@ -31,14 +33,19 @@ abbrev pub book_of : Content → Book
 book_of c =
     record { items = c.items; arrivals = c.arrivals; kept = c.kept; rows = c.rows; lines = [] }
 
+-- what trees hold
+abbrev pub held_in : tree.BTreeMap Text Instance → sorted.BTreeSet Pair → sorted.BTreeSet Text
+    → tree.BTreeMap Pair Progress → Content
+held_in items arrivals kept rows = record {
+  items = as_map text_cmp items;
+  arrivals = as_set pair_cmp arrivals;
+  kept = as_set text_cmp kept;
+  rows = as_map pair_cmp rows;
+}
+
 -- what the parts hold
 abbrev pub content : HistoryParts → Content
-content p = record {
-  items = as_map text_cmp p.items;
-  arrivals = as_set pair_cmp p.arrivals;
-  kept = as_set text_cmp p.kept;
-  rows = as_map pair_cmp p.rows;
-}
+content p = held_in p.items p.arrivals p.kept p.rows
 
 -- what these lists of all arrivals, kept uids and rows make, with these items
 abbrev pub all_of : FinMap text_cmp Instance → List Pair → List Text → List (Pair × Progress)

@@ -5,7 +5,7 @@ ghost use Rattle.std.specs.FinSet as set;
 ghost use Rattle.dr_base.specs.Texts.{text_cmp};
 ghost use Rattle.dr_ledger.specs.Books.{Line};
 ghost use Rattle.dr_ledger.specs.SiteRoutes.{site_routing};
-ghost use Rattle.dr_ledger_history.specs.Contents.{HasJust, content};
+ghost use Rattle.dr_ledger_history.specs.Contents.{HasJust, content, held_in};
 ghost use Rattle.dr_ledger_history.specs.Lines.{line_of};
 ghost use Rattle.dr_ledger_history.specs.Told.{IsTold, IsToldSince, Tells, TellsSince};
 ghost use Rattle.dr_ledger_history.specs.Trees.{as_map};
@@ -17,7 +17,7 @@ use dr_base::Text;
 use dr_ledger::{Instance, Progress};
 use dr_site::Site;
 use std::alloc::Global;
-use std::collections::BTreeMap;
+use std::collections::{BTreeMap, BTreeSet};
 
 /// What a node has by the lines that were told: its instances, who brought which uid, the kept
 /// uids, and how far each (uid, destination) is. It is the book of these lines but for the lines
@@ -37,6 +37,51 @@ impl History {
             alloc,
             parts: HistoryParts::new(alloc),
         }
+    }
+
+    /// Of what these trees hold, which lines made that aren't told again; it takes no memory. Where
+    /// that is what they made, it goes on from them (`IsTold`).
+    pub fn of_trees(
+        alloc: Global,
+        items: BTreeMap<Text, Instance>,
+        arrivals: BTreeSet<(Text, Text)>,
+        kept: BTreeSet<Text>,
+        rows: BTreeMap<(Text, Text), Progress>,
+    ) -> History
+        ensures { content result.parts ≡ held_in items arrivals kept rows }
+    {
+        History {
+            alloc,
+            parts: HistoryParts::of_trees(items, arrivals, kept, rows),
+        }
+    }
+
+    /// Its instances by uid.
+    pub fn items(&self) -> &BTreeMap<Text, Instance>
+        ensures { result.now ≡ self.now.parts.items }
+    {
+        self.parts.items()
+    }
+
+    /// Who brought which uid.
+    pub fn arrivals(&self) -> &BTreeSet<(Text, Text)>
+        ensures { result.now ≡ self.now.parts.arrivals }
+    {
+        self.parts.arrivals()
+    }
+
+    /// The kept uids.
+    pub fn kept(&self) -> &BTreeSet<Text>
+        ensures { result.now ≡ self.now.parts.kept }
+    {
+        self.parts.kept()
+    }
+
+    /// How far each (uid, destination) is.
+    pub fn rows(&self) -> &BTreeMap<(Text, Text), Progress>
+        ensures { result.now ≡ self.now.parts.rows }
+    {
+        self.parts.rows()
     }
 
     /// Takes the next line of those up to the last adoption, whose plans are gone: the book before

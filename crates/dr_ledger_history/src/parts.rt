@@ -6,6 +6,7 @@ ghost use Rattle.dr_ledger.specs.Books.{Arrival, Adoption, Dropping, Forgetting,
 ghost use Rattle.dr_ledger.specs.Books.{Settling, after, empty_book};
 ghost use Rattle.dr_ledger.specs.Histories.{IsSame};
 ghost use Rattle.dr_ledger_history.specs.Contents.{HasJust, book_of, content, content_of};
+ghost use Rattle.dr_ledger_history.specs.Contents.{held_in};
 ghost use Rattle.dr_ledger_history.specs.Lines.{line_of};
 ghost use Rattle.dr_ledger_history.specs.Takings.{TakesLine};
 ghost use Rattle.dr_ledger_history.specs.Trees.{as_map};
@@ -43,6 +44,51 @@ impl HistoryParts {
             kept: BTreeSet::new(alloc),
             rows: BTreeMap::new(alloc),
         }
+    }
+
+    /// Of what these trees hold; it takes no memory.
+    pub fn of_trees(
+        items: BTreeMap<Text, Instance>,
+        arrivals: BTreeSet<(Text, Text)>,
+        kept: BTreeSet<Text>,
+        rows: BTreeMap<(Text, Text), Progress>,
+    ) -> HistoryParts
+        ensures { content result ≡ held_in items arrivals kept rows }
+    {
+        HistoryParts {
+            items,
+            arrivals,
+            kept,
+            rows,
+        }
+    }
+
+    /// Its instances by uid.
+    pub fn items(&self) -> &BTreeMap<Text, Instance>
+        ensures { result.now ≡ self.now.items }
+    {
+        &self.items
+    }
+
+    /// Who brought which uid.
+    pub fn arrivals(&self) -> &BTreeSet<(Text, Text)>
+        ensures { result.now ≡ self.now.arrivals }
+    {
+        &self.arrivals
+    }
+
+    /// The kept uids.
+    pub fn kept(&self) -> &BTreeSet<Text>
+        ensures { result.now ≡ self.now.kept }
+    {
+        &self.kept
+    }
+
+    /// How far each (uid, destination) is.
+    pub fn rows(&self) -> &BTreeMap<(Text, Text), Progress>
+        ensures { result.now ≡ self.now.rows }
+    {
+        &self.rows
     }
 
     /// Takes a line, whose plan may be gone.

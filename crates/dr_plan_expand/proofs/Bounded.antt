@@ -4,7 +4,7 @@ use Rattle.std.specs.Prelude.{nat_eq, nat_le, flat_map}
 use Rattle.std.proofs.lemmas.Bool.{false≢true, cond-true, cond_both, eqb-true, eq-eqb, leb-true}
 use Rattle.std.proofs.lemmas.List.{length-append, length-map}
 use Rattle.std.proofs.lemmas.List.Sums.{sum_by-cons, sum_by-append}
-use Rattle.std.proofs.Math.Nat.{le-mul_of_pos_right, mul-le-mul, mul-zero, mul_comm, suc-mul, zero-mul}
+use Rattle.std.proofs.Math.Nat.{le-mul_of_pos_right, mul-le-mul, mul-zero, mul_assoc, mul_comm, suc-mul, zero-mul}
 use Rattle.std.proofs.lemmas.List.Concat.{flat_map-cons}
 use Rattle.std.proofs.lemmas.Slice.Eq.{bytes_eq-Decides}
 use Rattle.std.specs.Str.{bytes_eq}
@@ -14,15 +14,21 @@ use Rattle.dr_route.specs.declared.rule.Pattern.{Pattern}
 use Rattle.dr_route.specs.declared.rule.Pattern.TheVariants.{Literal}
 use Rattle.dr_plan_expand.specs.declared.short.AnyWords.{AnyWords}
 use Rattle.dr_plan_expand.specs.declared.short.AnyWords.TheVariants as any
+use Rattle.dr_route.specs.declared.accept.Callers.{Callers}
+use Rattle.dr_route.specs.declared.accept.Callers.TheVariants as callers
+use Rattle.dr_plan_model.specs.declared.plan.Values.{Values}
+use Rattle.dr_plan_model.specs.declared.plan.Values.TheVariants as values
+use Rattle.dr_plan_text.specs.declared.words.AcceptText.{AcceptText}
 use Rattle.dr_plan_text.specs.declared.words.NodeText.{NodeText}
 use Rattle.dr_plan_text.specs.declared.words.FlowText.{FlowText}
 use Rattle.dr_plan_text.specs.declared.words.PlanText.{PlanText}
 use Rattle.dr_plan_expand.specs.Lists.{Yields}
-use Rattle.dr_plan_expand.specs.Words.{Known, OfSet, Defines, IsPlainWord, IsSet, YieldsClass, YieldsOfSet, YieldsClasses, YieldsNodes}
-use Rattle.dr_plan_expand.specs.Meanings.{Lookups, lookups_of, ArePatterns, YieldsRules, YieldsNode, YieldsFlows, Means, rule_of, node_of, flow_of}
-use Rattle.dr_plan_expand.specs.Amounts.{most, too_much, list_amount, defined_size, one_if_in, usual_size, marked_size, word_size, word_nodes, word_classes, words_size, any_size, rule_size, node_size, lists_size, flow_size, IsWithin}
-use Rattle.dr_plan_expand.specs.Laws.{rule_count}
+use Rattle.dr_plan_expand.specs.Words.{Known, OfSet, Defines, IsPlainWord, IsSet, YieldsClass, YieldsOfSet, YieldsClasses, YieldsNodes, YieldsSyntax}
+use Rattle.dr_plan_expand.specs.Meanings.{Lookups, lookups_of, IsCallers, ArePatterns, YieldsRows, YieldsRules, YieldsNode, YieldsFlows, Means, row_of, rule_of, node_of, flow_of}
+use Rattle.dr_plan_expand.specs.Amounts.{most, too_much, list_amount, defined_size, one_if_in, usual_size, marked_size, word_size, word_nodes, word_classes, words_size, callers_size, any_size, values_size, row_size, rule_size, node_size, lists_size, flow_size, IsWithin}
+use Rattle.dr_plan_expand.specs.Laws.{callers_count, values_count, row_words, rule_words, node_words, flow_words, plan_words}
 use Rattle.dr_plan_expand.specs.declared.short.Definition.{Definition}
+use Rattle.dr_plan_expand.specs.declared.short.ShortRow.{ShortRow}
 use Rattle.dr_plan_expand.specs.declared.short.ShortRule.{ShortRule}
 use Rattle.dr_plan_expand.specs.declared.short.ShortNode.{ShortNode}
 use Rattle.dr_plan_expand.specs.declared.short.ShortFlow.{ShortFlow}
@@ -151,52 +157,118 @@ product a b (suc f) (suc c) one other le =
     let turned = mul_comm (suc c) (suc f) in
     mul-le-mul (one (omega arith)) (other (omega arith))
 
-volume : (a b f c t : ℕ) → 0 < t → (f ≤ most → a ≤ f) → (c ≤ most → b ≤ c) → f * c * t ≤ most → a * b ≤ f * c * t
-volume a b f c t some one other le =
-    let less : f * c ≤ f * c * t = le-mul_of_pos_right (f * c) some in
-    let within = product a b f c one other (omega arith) in
-    omega arith
-
--- how long a list is that has as many for each element
-flat_long : {X Y : Type 0} (g : X → List Y) (n : ℕ) → ((x : X) → length (g x) ≡ n) → (xs : List X) → length (flat_map g xs) ≡ length xs * n
-flat_long g n each [] = sym (zero-mul n)
-flat_long g n each (x ∷ xs) =
-    let more = flat_long g n each xs in
+-- how much a list is, each of whose elements is as much
+map_much : {X Y : Type 0} (m : Y → ℕ) (g : X → Y) (n : ℕ) → ((x : X) → m (g x) ≡ n) → (xs : List X) → sum_by m (map g xs) ≡ length xs * n
+map_much m g n each [] = sym (zero-mul n)
+map_much m g n each (x ∷ xs) =
+    let more = map_much m g n each xs in
     let here = each x in
-    let sum : length (flat_map g (x ∷ xs)) ≡ length (g x) + length (flat_map g xs) = ap length (flat_map-cons g x xs) ∙ length-append (g x) (flat_map g xs) in
+    let sum : sum_by m (map g (x ∷ xs)) ≡ m (g x) + sum_by m (map g xs) = sum_by-cons m (g x) (map g xs) in
     let times : suc (length xs) * n ≡ length xs * n + n = suc-mul (length xs) n in
     omega arith
 
+flat_much : {X Y : Type 0} (m : Y → ℕ) (g : X → List Y) (n : ℕ) → ((x : X) → sum_by m (g x) ≡ n) → (xs : List X) → sum_by m (flat_map g xs) ≡ length xs * n
+flat_much m g n each [] = sym (zero-mul n)
+flat_much m g n each (x ∷ xs) =
+    let more = flat_much m g n each xs in
+    let here = each x in
+    let sum : sum_by m (flat_map g (x ∷ xs)) ≡ sum_by m (g x) + sum_by m (flat_map g xs) = ap (sum_by m) (flat_map-cons g x xs) ∙ sum_by-append m (g x) (flat_map g xs) in
+    let times : suc (length xs) * n ≡ length xs * n + n = suc-mul (length xs) n in
+    omega arith
+
+-- the lists of a row, a rule and a flow
+listed_within : (n : ℕ) → list_amount n ≤ most → n ≤ list_amount n
+listed_within n le = no_more n (list_amount n) (listed_few n (few n le))
+
+callers_within : (groups : List Definition) (words from : Callers) → IsCallers groups words from → callers_size groups words ≤ most → callers_count from ≤ callers_size groups words
+callers_within groups callers.Any from is le = no_more _ _ (ap callers_count is)
+callers_within groups (callers.Listed words) from is le =
+    let long : callers_count from ≡ length is.0 = ap callers_count is.2 in
+    let less = words_within (YieldsNodes groups) (word_nodes groups) (nodes_within groups) words is.0 is.1 le in
+    omega arith
+
+values_within : (own : Values) → values_size own ≤ most → values_count own ≤ values_size own
+values_within values.Any le = no_more _ _ refl
+values_within (values.Listed own) le =
+    let some = listed_within (length own.literals) (omega arith) in
+    let more = listed_within (length own.prefixes) (omega arith) in
+    omega arith
+
+syntax_within : (tables : List (List Known)) (word : Text) (uids : List Text) → YieldsSyntax tables word uids → word_nodes [] word ≤ 1024 → length uids ≤ word_nodes [] word
+syntax_within tables word uids y =
+    let one : length uids ≡ 1 = elim y [ inl known ↦ ap length known.2 | inr itself ↦ ap length itself.1 ] in
+    word_within (λ name. defined_size [] name 1) word (length uids) (λ name e le. no_more _ _ one) (λ plain. no_more _ _ one)
+
 module _ (l : Lookups) where
-  rules_within : (rule : ShortRule) (rules : List Rule) → YieldsRules l rule rules → rule_size l rule ≤ most → length rules ≤ rule_size l rule
+  syntaxes_within : (words uids : List Text) → Yields (YieldsSyntax l.syntaxes) words uids → words_size (word_nodes []) words ≤ most → length uids ≤ words_size (word_nodes []) words
+  syntaxes_within words uids y le = words_within (YieldsSyntax l.syntaxes) (word_nodes []) (syntax_within l.syntaxes) words uids y le
+
+  rows_within : (row : ShortRow) (rows : List AcceptText) → YieldsRows l row rows → row_size l row ≤ most → sum_by row_words rows ≤ row_size l row
+  rows_within row rows y le =
+      let much : sum_by row_words rows ≡ length y.classes * (1 + (callers_count y.from + length y.syntaxes)) =
+      ap (sum_by row_words) y.are ∙ map_much row_words (row_of y.from y.syntaxes) (1 + (callers_count y.from + length y.syntaxes)) (λ class. refl) y.classes in
+      let less = product (length y.classes) (1 + (callers_count y.from + length y.syntaxes))
+      (words_size (word_classes l.usual l.sets) row.classes) (1 + (callers_size l.groups row.from + words_size (word_nodes []) row.syntaxes))
+      (words_within (YieldsClasses l.classes l.usual l.sets) (word_classes l.usual l.sets) (classes_within l.classes l.usual l.sets) row.classes y.classes y.each_class)
+      (λ part.
+          let from = callers_within l.groups row.from y.from y.each_caller (omega arith) in
+          let syntaxes = syntaxes_within row.syntaxes y.syntaxes y.each_syntax (omega arith) in
+          omega arith) le in
+      omega arith
+
+  rules_within : (rule : ShortRule) (rules : List Rule) → YieldsRules l rule rules → rule_size l rule ≤ most → sum_by rule_words rules ≤ rule_size l rule
   rules_within rule rules y le =
-      let long : length rules ≡ length y.froms * length y.classes =
-      ap length y.are ∙ flat_long (λ from. map (rule_of rule y.to from) y.classes) (length y.classes) (λ from. length-map y.classes (rule_of rule y.to from)) y.froms in
-      let less = volume (length y.froms) (length y.classes) (any_size (word_nodes l.groups) rule.from) (any_size (word_classes l.usual l.sets) rule.classes)
-      (1 + (list_amount (length rule.except) + words_size (word_nodes l.groups) rule.to)) (omega arith)
-      (patterns_within (YieldsNodes l.groups) (word_nodes l.groups) (nodes_within l.groups) rule.from y.froms y.each_caller)
-      (patterns_within (YieldsClasses l.classes l.usual l.sets) (word_classes l.usual l.sets) (classes_within l.classes l.usual l.sets) rule.classes y.classes y.each_class) le in
+      let much : sum_by rule_words rules ≡ length y.froms * (length y.classes * (1 + (length rule.except + length y.to))) =
+      ap (sum_by rule_words) y.are ∙ flat_much rule_words (λ from. map (rule_of rule y.to from) y.classes) (length y.classes * (1 + (length rule.except + length y.to)))
+      (λ from. map_much rule_words (rule_of rule y.to from) (1 + (length rule.except + length y.to)) (λ class. refl) y.classes) y.froms in
+      let turned = mul_assoc (length y.froms) (length y.classes) (1 + (length rule.except + length y.to)) in
+      let less = product (length y.froms * length y.classes) (1 + (length rule.except + length y.to))
+      (any_size (word_nodes l.groups) rule.from * any_size (word_classes l.usual l.sets) rule.classes)
+      (1 + (list_amount (length rule.except) + words_size (word_nodes l.groups) rule.to))
+      (product (length y.froms) (length y.classes) (any_size (word_nodes l.groups) rule.from) (any_size (word_classes l.usual l.sets) rule.classes)
+          (patterns_within (YieldsNodes l.groups) (word_nodes l.groups) (nodes_within l.groups) rule.from y.froms y.each_caller)
+          (patterns_within (YieldsClasses l.classes l.usual l.sets) (word_classes l.usual l.sets) (classes_within l.classes l.usual l.sets) rule.classes y.classes y.each_class))
+      (λ lists.
+          let except = listed_within (length rule.except) (omega arith) in
+          let to = words_within (YieldsNodes l.groups) (word_nodes l.groups) (nodes_within l.groups) rule.to y.to y.each_target (omega arith) in
+          omega arith) le in
       omega arith
 
-  flows_within : (flow : ShortFlow) (flows : List FlowText) → YieldsFlows l flow flows → flow_size l flow ≤ most → length flows ≤ flow_size l flow
+  lists_within : (flow : ShortFlow) (classes syntaxes : List Text) → Yields (YieldsClasses l.classes l.usual l.sets) flow.classes classes → Yields (YieldsSyntax l.syntaxes) flow.syntaxes syntaxes →
+      lists_size l flow ≤ most → 1 + (length classes + length syntaxes + values_count flow.modalities + values_count flow.stations) ≤ lists_size l flow
+  lists_within flow classes syntaxes of_classes of_syntaxes le =
+      let some = words_within (YieldsClasses l.classes l.usual l.sets) (word_classes l.usual l.sets) (classes_within l.classes l.usual l.sets) flow.classes classes of_classes (omega arith) in
+      let more = syntaxes_within flow.syntaxes syntaxes of_syntaxes (omega arith) in
+      let modalities = values_within flow.modalities (omega arith) in
+      let stations = values_within flow.stations (omega arith) in
+      omega arith
+
+  flows_within : (flow : ShortFlow) (flows : List FlowText) → YieldsFlows l flow flows → flow_size l flow ≤ most → sum_by flow_words flows ≤ flow_size l flow
   flows_within flow flows y le =
-      let long : length flows ≡ length y.ats * length y.tos =
-      ap length y.are ∙ flat_long (λ at. map (flow_of flow y.classes y.syntaxes at) y.tos) (length y.tos) (λ at. length-map y.tos (flow_of flow y.classes y.syntaxes at)) y.ats in
-      let less = volume (length y.ats) (length y.tos) (words_size (word_nodes l.groups) flow.at) (words_size (word_nodes l.groups) flow.to) (lists_size l flow) (omega arith)
-      (words_within (YieldsNodes l.groups) (word_nodes l.groups) (nodes_within l.groups) flow.at y.ats y.each_at)
-      (words_within (YieldsNodes l.groups) (word_nodes l.groups) (nodes_within l.groups) flow.to y.tos y.each_to) le in
+      let much : sum_by flow_words flows ≡ length y.ats * (length y.tos * (1 + (length y.classes + length y.syntaxes + values_count flow.modalities + values_count flow.stations))) =
+      ap (sum_by flow_words) y.are ∙ flat_much flow_words (λ at. map (flow_of flow y.classes y.syntaxes at) y.tos)
+      (length y.tos * (1 + (length y.classes + length y.syntaxes + values_count flow.modalities + values_count flow.stations)))
+      (λ at. map_much flow_words (flow_of flow y.classes y.syntaxes at) (1 + (length y.classes + length y.syntaxes + values_count flow.modalities + values_count flow.stations)) (λ to. refl) y.tos) y.ats in
+      let turned = mul_assoc (length y.ats) (length y.tos) (1 + (length y.classes + length y.syntaxes + values_count flow.modalities + values_count flow.stations)) in
+      let less = product (length y.ats * length y.tos) (1 + (length y.classes + length y.syntaxes + values_count flow.modalities + values_count flow.stations))
+      (words_size (word_nodes l.groups) flow.at * words_size (word_nodes l.groups) flow.to) (lists_size l flow)
+      (product (length y.ats) (length y.tos) (words_size (word_nodes l.groups) flow.at) (words_size (word_nodes l.groups) flow.to)
+          (words_within (YieldsNodes l.groups) (word_nodes l.groups) (nodes_within l.groups) flow.at y.ats y.each_at)
+          (words_within (YieldsNodes l.groups) (word_nodes l.groups) (nodes_within l.groups) flow.to y.tos y.each_to))
+      (lists_within flow y.classes y.syntaxes y.each_class y.each_syntax) le in
       omega arith
 
-  node_within : (node : ShortNode) (nodes : List NodeText) → YieldsNode l node nodes → node_size l node ≤ most → rule_count nodes ≤ node_size l node
+  node_within : (node : ShortNode) (nodes : List NodeText) → YieldsNode l node nodes → node_size l node ≤ most → sum_by node_words nodes ≤ node_size l node
   node_within node nodes y le =
-      let one : rule_count nodes ≡ length y.rules + 0 = ap rule_count y.are ∙ sum_by-cons (λ (n : NodeText). length n.rules) (node_of node y.accepts y.rules) [] in
-      let less = yields_within (YieldsRules l) (rule_size l) length most refl length-append rules_within node.rules y.rules y.each_rule (omega arith) in
+      let one : sum_by node_words nodes ≡ node_words (node_of node y.accepts y.rules) + 0 = ap (sum_by node_words) y.are ∙ sum_by-cons node_words (node_of node y.accepts y.rules) [] in
+      let rows = yields_within (YieldsRows l) (row_size l) (sum_by row_words) most refl (sum_by-append row_words) rows_within node.accepts y.accepts y.each_row (omega arith) in
+      let rules = yields_within (YieldsRules l) (rule_size l) (sum_by rule_words) most refl (sum_by-append rule_words) rules_within node.rules y.rules y.each_rule (omega arith) in
       omega arith
 
--- the rules and flows of a plan that is within the bound
-pub bounded : (short : ShortPlan) (plan : PlanText) → Means short plan → IsWithin short → rule_count plan.nodes + length plan.flows ≤ most
+-- the words of a plan that is within the bound
+pub bounded : (short : ShortPlan) (plan : PlanText) → Means short plan → IsWithin short → plan_words plan ≤ most
 bounded short plan means within =
     let l = lookups_of short in
-    let nodes = yields_within (YieldsNode l) (node_size l) rule_count most refl (sum_by-append (λ (n : NodeText). length n.rules)) (node_within l) short.nodes plan.nodes means.nodes (omega arith) in
-    let flows = yields_within (YieldsFlows l) (flow_size l) length most refl length-append (flows_within l) short.flows plan.flows means.flows (omega arith) in
+    let nodes = yields_within (YieldsNode l) (node_size l) (sum_by node_words) most refl (sum_by-append node_words) (node_within l) short.nodes plan.nodes means.nodes (omega arith) in
+    let flows = yields_within (YieldsFlows l) (flow_size l) (sum_by flow_words) most refl (sum_by-append flow_words) (flows_within l) short.flows plan.flows means.flows (omega arith) in
     omega arith

@@ -13,3 +13,6 @@ pub mod Expanded
 pub mod OneExpansion
 pub mod Summed
 pub mod Bounded
+pub mod SmallPlan
+pub mod SmallSaid
+pub mod AllStorage

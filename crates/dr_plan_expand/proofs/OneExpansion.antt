@@ -5,8 +5,9 @@ use Rattle.toml.specs.Data.{Members}
 use Rattle.dr_base.specs.Texts.{Text}
 use Rattle.dr_plan_expand.specs.Meanings.{Means}
 use Rattle.dr_plan_expand.specs.Amounts.{IsWithin}
+use Rattle.dr_plan_expand.specs.Spelling.{plan_text}
 use Rattle.dr_plan_expand.specs.Expanding.{StandsFor, IsOwn, Fails}
-use Rattle.dr_plan_expand.specs.Laws.{EachTextExpandsToOne, ExpansionsAreTheirOwn, NoneExpandsAndFails, OneExpandFaultIsTold, NodeStandsForItself, StrangeGroupStandsForNone}
+use Rattle.dr_plan_expand.specs.Laws.{EachTextExpandsToOne, ExpansionsAreTheirOwn, NoneExpandsAndFails, OneExpandFaultIsTold, EachTextHasAnAnswer, NodeStandsForItself, StrangeGroupStandsForNone}
 use Rattle.dr_plan_expand.specs.declared.short.ShortPlan.{ShortPlan}
 use Rattle.dr_plan_expand.specs.declared.fault.ExpandFault.TheVariants.{Field, Limit, Unknown, Memory}
 use Rattle.dr_plan_expand.proofs.ShortOne.{short_one, stands_one}
@@ -58,6 +59,16 @@ one_fault root Unknown Limit a b m n = absurd (no_limit root b a)
 one_fault root Unknown Unknown a b m n = refl
 one_fault root Memory b p q m n = absurd (m refl)
 one_fault root a Memory p q m n = absurd (n refl)
+
+-- a text that doesn't fail in one of three ways stands for a text, and that is its own expansion
+pub answered : EachTextHasAnAnswer
+answered root none sound =
+    sound Field (λ e. cc) (inl (λ short says.
+        sound Limit (λ e. cc) (short, says, (λ within.
+            sound Unknown (λ e. cc) (short, says, within, (λ plan means.
+                let stands : StandsFor root (plan_text plan) = record { short = short; plan = plan; says = says; within = within; means = means; is = refl } in
+                sound Field (λ e. cc) (inr (plan_text plan, stands, (λ own. none (plan_text plan) (stands, own))))
+            ))))))
 
 pub node_itself : NodeStandsForItself
 node_itself = inr (λ rest e. (let d : ◌≡◌ {A = ℕ} 67 64 = ap (λ (t : Text). get_or t 0 0) e in omega arith), refl)

@@ -9,4 +9,6 @@ pub mod Amounts
 pub mod Seen
 pub mod Spelling
 pub mod Expanding
+pub mod Small
+pub mod SmallTables
 pub mod Laws

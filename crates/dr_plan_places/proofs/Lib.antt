@@ -7,3 +7,6 @@ pub mod Indices
 pub mod Refuted
 pub mod ShortRefuted
 pub mod Small
+pub mod Strange
+pub mod Placing
+pub mod Unknowing

@@ -1,26 +1,31 @@
 -- Flaws of small tables.
-use Rattle.std.proofs.Common.{◌≡◌, refl, sym, ap, ◌∙◌, subst, ℕ, pos, Option, [], ◌∷◌, codes, get_or, Contains, arith, inl, inr, lit<}
+use Rattle.std.proofs.Common.{◌≡◌, false, refl, sym, ap, ◌∙◌, subst, ℕ, pos, Option, Some, [], ◌∷◌, codes, get_or, Contains, arith, inl, inr, lit<}
 use Rattle.std.specs.Prelude.{All}
 use Rattle.std.proofs.lemmas.List.Elements.{All-nil}
 use Rattle.dr_route.specs.declared.rule.FieldPattern.{FieldPattern}
 use Rattle.dr_route.specs.declared.rule.FieldPattern.TheVariants as field
-use Rattle.dr_plan_model.specs.declared.plan.Format.TheVariants.{One}
+use Rattle.dr_plan_model.specs.declared.plan.Format.TheVariants.{One, Three}
+use Rattle.dr_plan_model.specs.declared.listens.Listens.{Listens}
+use Rattle.dr_plan_model.specs.declared.listens.Listens.TheVariants.{Nowhere, At}
+use Rattle.dr_plan_text.specs.Listening.{IsListens}
 use Rattle.dr_plan_model.specs.Naming.{prefix_of}
 use Rattle.dr_plan_text.specs.declared.words.NodeText.{NodeText}
 use Rattle.dr_plan_text.specs.declared.words.FlowText.{FlowText}
 use Rattle.dr_plan_model.specs.Formed.{RuleFits, ValuesFit}
 use Rattle.dr_plan_model.specs.Listening.{ListensFits}
-use Rattle.dr_plan_text.specs.Fields.{GivenOr, SaysField, SaysExceptions}
+use Rattle.dr_plan_text.specs.Fields.{Given, GivenOr, SaysText, SaysField, SaysExceptions}
 use Rattle.dr_plan_text.specs.Laws.{written_rule, written_except_rule}
 use Rattle.dr_plan_text.proofs.OfValues.{no_format, SaysField-one}
 use Rattle.dr_plan_text.proofs.PrefixTexts.{ct_is}
 use Rattle.dr_plan_text.proofs.ExceptTexts.{ct9_is}
-use Rattle.toml.specs.Data.{Data, integer, string, no_items, item, no_members}
+use Rattle.std.proofs.lemmas.Bool.{false≢true}
+use Rattle.std.proofs.lemmas.Option.{none-some}
+use Rattle.toml.specs.Data.{Data, integer, string, boolean, no_items, item, Members, no_members, get_member}
 use Rattle.dr_base.specs.Texts.{Text}
 use Rattle.dr_plan_model.proofs.Gathered.{Contains-cons_cases, only_one}
 use Rattle.dr_plan_text.specs.Tables.{IsRoot, IsRuleTable, IsFormat, root_keys}
 use Rattle.dr_plan_places.proofs.FieldsFlawed.{unknown}
-use Rattle.dr_plan_places.specs.Laws.{ColourIsUnknown, FormatIsNotMissing, FourthFormatIsIllFormed, PrefixIsIllFormedInFormatOne, PrefixIsOfFormatTwo, ExceptionIsIllFormedInFormatTwo, ExceptionIsFineInFormatThree, coloured, prefixed, excepting}
+use Rattle.dr_plan_places.specs.Laws.{ColourIsUnknown, FormatIsNotMissing, FourthFormatIsIllFormed, PrefixIsIllFormedInFormatOne, PrefixIsOfFormatTwo, ExceptionIsIllFormedInFormatTwo, ExceptionIsFineInFormatThree, FourthFormatIsNotMissing, FourthFormatIsAFlaw, AtIsMissing, AtIsNotIllFormed, NoColourIsUnknown, AddressOfACallerIsIllFormed, SecondNodeHasNoName, calling, coloured, prefixed, excepting}
 
 first_byte : (x y : Text) (a b : ℕ) → get_or x 0 0 ≡ a → get_or y 0 0 ≡ b → (a ≡ b → ⊥) → x ≡ y → ⊥
 first_byte x y a b at bt apart same = apart (sym at ∙ (ap (λ (t : Text). get_or t 0 0) same ∙ bt))
@@ -107,3 +112,40 @@ excepting_rule = record {
 
 pub exception_is_of_format_3 : ExceptionIsFineInFormatThree
 exception_is_of_format_3 = λ h. h.0 excepting written_except_rule refl refl (excepting_rule, (tt, tt, tt))
+
+pub fourth_is_given : FourthFormatIsNotMissing
+fourth_is_given h = none-some (integer (pos 4)) (sym h.1)
+
+pub fourth_is_a_flaw : FourthFormatIsAFlaw
+fourth_is_a_flaw = (Three, (apart_numbers 4 1 (λ e. omega arith), apart_numbers 4 2 (λ e. omega arith)), fourth_format_is_ill_formed)
+
+pub at_is_missing : AtIsMissing
+at_is_missing = (
+  λ other flow same beside is.
+      let P : Option Data → Type 0 = λ value. Given SaysText value flow.at in
+      subst P same is.0.at,
+  refl,
+)
+
+pub at_is_not_ill_formed : AtIsNotIllFormed
+at_is_not_ill_formed h = false≢true h.1
+
+pub no_colour_is_unknown : NoColourIsUnknown
+no_colour_is_unknown h = false≢true h.0
+
+-- where only a call is said, no address is
+no_address : (other : Members) (place : Listens) (address : Data) → get_member (codes "address") other ≡ Some address → get_member (codes "listens") other ≡ Some (boolean false) → IsListens false other place → ⊥
+no_address other Nowhere address given calls is = none-some address (sym is.1 ∙ given)
+no_address other (At a b) address given calls is = none-some (boolean false) (sym is.0 ∙ calls)
+
+pub address_of_a_caller : AddressOfACallerIsIllFormed
+address_of_a_caller = (λ other node same beside is. no_address other node.listens (string (codes "h:1")) same beside is.0.listens, refl)
+
+pub second_node : SecondNodeHasNoName
+second_node = (
+  One,
+  refl,
+  (no_members, refl, (λ other node same beside is.
+      let P : Option Data → Type 0 = λ value. Given SaysText value node.name in
+      subst P same is.0.name, refl)),
+)

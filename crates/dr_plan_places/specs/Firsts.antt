@@ -17,3 +17,7 @@ pub record IsFirstBad (P : Text → Type 0) (texts : List Text) (index : ℕ) : 
   pub stands : slice_get texts index ≡ Some text
   pub bad : P text → ⊥
   pub before : All P (take index texts)
+
+-- nothing has the property
+abbrev pub HasNone : {X : Type 0} → (X → Type 0) → Type 0
+HasNone {X} P = (x : X) → P x → ⊥

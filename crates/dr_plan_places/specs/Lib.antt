@@ -7,4 +7,5 @@ pub mod Laws
 pub mod Named
 pub mod Placed
 pub mod ShortFlaws
+pub mod Shown
 pub mod Strangers

@@ -78,6 +78,11 @@ IsStrangerAt l short (OfNode index part) key word =
 IsStrangerAt l short (OfFlow index) key word =
     (flow : ShortFlow) × (slice_get short.flows index ≡ Some flow) × IsInFlow l flow key word
 
+-- no word of the plan does
+abbrev pub HasNoStranger : Lookups → ShortPlan → Type 0
+HasNoStranger l short =
+    (place : FieldPlace) (key : WordKey) (word : Text) → IsStrangerAt l short place key word → ⊥
+
 -- the word at this place of the plan stands for nothing by the tables of the standard and of the
 -- product, and by the plan's own sets and groups
 abbrev pub IsStranger : ShortPlan → FieldPlace → WordKey → Text → Type 0

@@ -1,8 +1,7 @@
 //! What is wrong with a name.
-ghost use Rattle.std.specs.Prelude.{◌≢◌, ◌≤◌, ◌<◌, All, MatchOption};
+ghost use Rattle.std.specs.Prelude.{MatchOption};
 ghost use Rattle.dr_plan_model.specs.Formed.{IsName};
-ghost use Rattle.dr_plan_places.specs.Flaws.{IsNoNameByte, HasNameFlaw};
-ghost use Rattle.dr_plan_places.specs.Firsts.{IsFirstAt};
+ghost use Rattle.dr_plan_places.specs.Flaws.{IsNameByte, IsNoNameByte, HasNameFlaw};
 
 use crate::first::{Look, first};
 use dr_plan_core::is_reserved;
@@ -32,7 +31,7 @@ impl Look for NameBytes {
 
     type Place = ();
 
-    ghost is_free = { λ _ byte. (32 ≤ byte) × (byte < 127) × (byte ≢ 92) };
+    ghost is_free = { λ _ byte. IsNameByte byte };
 
     ghost is_at = { λ _ byte _. IsNoNameByte byte };
 

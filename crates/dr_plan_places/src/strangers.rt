@@ -1,10 +1,12 @@
 //! Words of a plan of format 3 that nobody defines.
-ghost use Rattle.std.specs.Prelude.{◌≡◌, IfOk, IfSome, List, Some, slice_get};
+ghost use Rattle.std.specs.Prelude.{◌≡◌, IfOk, All, List, MatchOption, Some, slice_get};
 ghost use Rattle.dr_base.specs.Texts.{Text as Words};
+ghost use Rattle.dr_plan_expand.specs.Meanings.{lookups_of};
 ghost use Rattle.dr_plan_expand.specs.Seen.{seen};
+ghost use Rattle.dr_plan_places.specs.Firsts.{HasNone};
 ghost use Rattle.dr_plan_places.specs.Strangers.{IsAmong, IsAmongCallers, IsAmongWords, IsNoNode};
 ghost use Rattle.dr_plan_places.specs.Strangers.{IsInRow, IsInRule, IsInFlow, IsInPart};
-ghost use Rattle.dr_plan_places.specs.Strangers.{IsStrangerAt, IsStranger};
+ghost use Rattle.dr_plan_places.specs.Strangers.{IsStrangerAt, IsStranger, HasNoStranger};
 
 use crate::field_place::{FieldPlace, NodePart};
 use dr_base::Text;
@@ -44,9 +46,10 @@ trait Hunt {
 
     ghost is_found: { Self → Self.Value → Self.Found → Type 0 };
 
-    /// What is found in the value.
+    /// What is found in the value; None where nothing can be.
     fn hunt(&self, alloc: Global, value: &Self::Value) -> Result<Option<Self::Found>, AllocError>
-        ensures { IfOk result (λ found. IfSome found (is_found self.now value.now)) };
+        ensures { IfOk result (λ found. MatchOption found
+            (HasNone (is_found self.now value.now)) (is_found self.now value.now)) };
 }
 
 /// The first of the values in which something is found, by its index, and what is found.
@@ -55,7 +58,9 @@ fn first_found<H: Hunt>(
     alloc: Global,
     values: &[H::Value],
 ) -> Result<Option<(usize, H::Found)>, AllocError>
-    ensures { IfOk result (λ first. IfSome first (λ f. (value : H.Value)
+    ensures { IfOk result (λ first. MatchOption first
+        (All (λ value. HasNone (H.is_found hunt.now value)) values.now)
+        (λ f. (value : H.Value)
         × (slice_get values.now f.0 ≡ Some value)
         × H.is_found hunt.now value f.1)) }
 {
@@ -97,7 +102,10 @@ fn stranger_among<Y: Yielding<Element = Text, Thing = Text>>(
     key: WordKey,
     words: &[Text],
 ) -> Result<Option<Stranger>, AllocError>
-    ensures { IfOk result (λ found. IfSome found (λ stranger. (stranger.key ≡ key)
+    ensures { IfOk result (λ found. MatchOption found
+        (HasNone (λ word. IsAmong words.now word
+        × ((things : List Words) → Y.yields way.now word things → ⊥)))
+        (λ stranger. (stranger.key ≡ key)
         × IsAmong words.now stranger.word
         × ((things : List Words) → Y.yields way.now stranger.word things → ⊥))) }
 {
@@ -113,7 +121,9 @@ fn among_callers(
     tables: Tables<'_>,
     from: &Callers,
 ) -> Result<Option<Stranger>, AllocError>
-    ensures { IfOk result (λ found. IfSome found (λ stranger. (stranger.key ≡ WordKey.From)
+    ensures { IfOk result (λ found. MatchOption found
+        (HasNone (λ word. IsAmongCallers from.now word × IsNoNode (seen tables.entry) word))
+        (λ stranger. (stranger.key ≡ WordKey.From)
         × IsAmongCallers from.now stranger.word
         × IsNoNode (seen tables.entry) stranger.word)) }
 {
@@ -137,7 +147,10 @@ fn among_words<Y: Yielding<Element = Text, Thing = Text>>(
     key: WordKey,
     words: &AnyWords,
 ) -> Result<Option<Stranger>, AllocError>
-    ensures { IfOk result (λ found. IfSome found (λ stranger. (stranger.key ≡ key)
+    ensures { IfOk result (λ found. MatchOption found
+        (HasNone (λ word. IsAmongWords words.now word
+        × ((things : List Words) → Y.yields way.now word things → ⊥)))
+        (λ stranger. (stranger.key ≡ key)
         × IsAmongWords words.now stranger.word
         × ((things : List Words) → Y.yields way.now stranger.word things → ⊥))) }
 {
@@ -251,8 +264,9 @@ fn stranger_by(
     tables: Tables<'_>,
     short: &ShortPlan,
 ) -> Result<Option<(FieldPlace, Stranger)>, AllocError>
-    ensures { IfOk result (λ found. IfSome found (λ f.
-        IsStrangerAt (seen tables.entry) short.now f.0 f.1.key f.1.word)) }
+    ensures { IfOk result (λ found. MatchOption found
+        (HasNoStranger (seen tables.entry) short.now)
+        (λ f. IsStrangerAt (seen tables.entry) short.now f.0 f.1.key f.1.word)) }
 {
     if let Some((node, (part, found))) = first_found(
         &InNodes(tables),
@@ -267,16 +281,17 @@ fn stranger_by(
     }
 }
 
-/// A word of the plan that stands for nothing, and its place: nodes are looked at first, and of
-/// each its accept rows, then its rules.
+/// A word of the plan that stands for nothing, and its place, and None where each stands for
+/// something: nodes are looked at first, and of each its accept rows, then its rules.
 ///
 /// Errors: want of memory.
 pub fn stranger_in(
     alloc: Global,
     short: &ShortPlan,
 ) -> Result<Option<(FieldPlace, Stranger)>, AllocError>
-    ensures { IfOk result (λ found. IfSome found (λ f.
-        IsStranger short.now f.0 f.1.key f.1.word)) }
+    ensures { IfOk result (λ found. MatchOption found
+        (HasNoStranger (lookups_of short.now) short.now)
+        (λ f. IsStranger short.now f.0 f.1.key f.1.word)) }
 {
     let known = standard_tables();
     let tables = tables_of(&known, short);

@@ -17,7 +17,7 @@ use Rattle.dr_store_changes.proofs.Movements.{goes_over}
 use Rattle.dr_store_calls.specs.Calling.{Called, IsKept, IsLedgerOf, IsLeftLedger, IsOwnFault, Looked, Nothing}
 use Rattle.dr_store_calls.proofs.Calls.{below_of, looked_failed, own_lasts, still_called}
 use Rattle.dr_store_calls.specs.Adoptions.{Adopted, AdoptsPlan, AnswersAdoption, Clears, IsAdopted, NotesPlan}
-use Rattle.dr_store_calls.specs.Owners.{IsOwnedWith, IsPlanWith}
+use Rattle.dr_store_calls.specs.Owners.{IsOwnedSo, IsPlanWith}
 use Rattle.dr_store_calls.proofs.Adoptions.{adopted_ledgers_are_of_the_next, adoptions_adopt}
 
 -- ---- the statements
@@ -116,8 +116,8 @@ module _ (n : ℕ) (part next : Part) (old new : State) (Asks : Trees → Type 0
     crash = λ {past} clean k asks db left. elim (c.crash clean k asks db left) [ inl h ↦ inl h | inr none ↦ absurd none.1 ];
   }
 
--- what was written, where the tables had this owner: its cell has the mark that the next one gets
-module _ (n : ℕ) (part next : Part) (old new : State) (still : old.in_transaction ≡ false → new.in_transaction ≡ false) (mark digest was cell : List ℕ) (had : IsPlanWith mark digest was) (has : IsPlanWith mark next.digest cell) (moment : Option ℕ) where
+-- what was written, where the tables had this owner: its cell has the mark and the seal that the next one gets
+module _ (n : ℕ) (part next : Part) (old new : State) (still : old.in_transaction ≡ false → new.in_transaction ≡ false) (mark seal digest was cell : List ℕ) (had : IsPlanWith mark seal digest was) (has : IsPlanWith mark seal next.digest cell) (moment : Option ℕ) where
   -- the site whose the tables were
   abbrev last : Part
   last = record {
@@ -135,8 +135,8 @@ module _ (n : ℕ) (part next : Part) (old new : State) (still : old.in_transact
   adopted_so : {past : List Line} → IsReady n old → IsLedgerOf past n part old.committed.trees → IsSiteOf next.name was old.committed.trees → (db : Trees) → AdoptsPlan cell n moment old.committed.trees db → IsLedgerOf past (n + 1) next db × IsAdopted next old.committed.trees db
   adopted_so {past} ready l asks db w =
       let it = adoptions_adopt old.committed.trees db cell n moment (below_of n old ready) w in
-      let owns : IsOwnedWith mark next db = (cell, has, w.site next.name was asks) in (
-        adopted_ledgers_are_of_the_next past part next old.committed.trees db cell n moment (below_of n old ready) l w (mark, owns),
+      let owns : IsOwnedSo mark seal next db = (cell, has, w.site next.name was asks) in (
+        adopted_ledgers_are_of_the_next past part next old.committed.trees db cell n moment (below_of n old ready) l w (mark, (seal, owns)),
         record {
           book = it.0;
           bodies = it.1;
@@ -144,6 +144,7 @@ module _ (n : ℕ) (part next : Part) (old new : State) (still : old.in_transact
             was = last;
             node = refl;
             mark = mark;
+            seal = seal;
             owned = (was, had, asks);
             owns = owns;
           };

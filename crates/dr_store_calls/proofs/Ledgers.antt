@@ -11,7 +11,7 @@ use Rattle.dr_store_calls.specs.Owners.{IsOwnedBy}
 -- the owner of tables whose owner's row stays
 pub still_owned : (part : Part) (base db : Trees) → db 0 ≡ base 0
     → IsOwnedBy part base → IsOwnedBy part db
-still_owned part base db site owned = (owned.0, (owned.1.0, owned.1.1, site ∙ owned.1.2))
+still_owned part base db site owned = (owned.0, (owned.1.0, (owned.1.1.0, owned.1.1.1, site ∙ owned.1.1.2)))
 
 -- lines count up with the one that is added
 pub one_line_more : {first : ℕ} (n : ℕ) (line : Row) (base db : Trees) → rowid line ≡ Int (pos n)

@@ -10,5 +10,6 @@ pub mod Overs
 pub mod Owners
 pub mod Pasts
 pub mod Reading
+pub mod Sealings
 pub mod Shelved
 pub mod Takings

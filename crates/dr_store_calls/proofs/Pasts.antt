@@ -22,10 +22,10 @@ use Rattle.dr_store_schema.specs.Cells.{number_in}
 use Rattle.dr_store_schema.proofs.WhatIsWritten.{no_entries}
 use Rattle.dr_store_changes.specs.Bringing.{HasCells}
 use Rattle.dr_store_changes.specs.Writing.{CountTo, numbers_in}
+use Rattle.dr_store_changes.specs.Sealing.{SealsLines, without_lines}
 use Rattle.dr_store_changes.proofs.Together.{untouched}
 use Rattle.dr_store_calls.specs.Calling.{IsLedgerOf}
-use Rattle.dr_store_calls.specs.PastLaws.{LinesLeft, LinesMayLeave, NumbersCountAllLines}
-use Rattle.dr_store_calls.proofs.Ledgers.{still_owned}
+use Rattle.dr_store_calls.specs.PastLaws.{LinesMayLeave, NumbersCountAllLines, SealingsKeepTheBook}
 
 -- ---- as many lines as numbers
 
@@ -94,7 +94,7 @@ no_lines = ap (mapped (λ (e : ℕ × Line). e.1)) (no_entries nat_cmp Line)
 no_numbers : numbers_in [] ≡ []
 no_numbers = ap (mapped (λ (e : ℕ × Unit {0}). e.0)) (no_entries nat_cmp (Unit {0}))
 
-module _ (past : List Line) (old new : Trees) (w : LinesLeft old new) where
+module _ (past : List Line) (plan : List ℕ) (old new : Trees) (w : SealsLines plan old new) where
   left_lines : lines_of new ≡ []
   left_lines = (λ i. lines_in (w.targets i) (w.journal i)) ∙ no_lines
 
@@ -139,12 +139,12 @@ module _ (past : List Line) (old new : Trees) (w : LinesLeft old new) where
       (subst (HasCells without) (sym same_bodies) (record { there = has.there }))
 
 pub lines_may_leave : LinesMayLeave
-lines_may_leave past n part old new l w =
+lines_may_leave past n part plan old new l w owned =
     let first = length (past ++ lines_of old) + 1 in
     let is : n ≡ first = numbers_count_all_lines past n part old l in
-    let book = same_book past old new w in (
+    let book = same_book past plan old new w in (
       record {
-        owned = still_owned part old new w.site l.owned;
+        owned = owned;
         together = untouched old new w.items w.prints l.together;
         numbered = record {
           below = subst (AreBelow n) (sym w.journal) tt;
@@ -154,7 +154,20 @@ lines_may_leave past n part old new l w =
         };
         ahead = λ m later. ap (λ rows. names_in rows m) w.targets;
         journalled = subst (IsJournalled (site_routing part)) (sym book) l.journalled;
-        bodied = still_bodied past old new w l.bodied;
+        bodied = still_bodied past plan old new w l.bodied;
       },
       book,
     )
+
+pub sealings_keep_the_book : SealingsKeepTheBook
+sealings_keep_the_book past seal part base db it =
+    let all = past ++ lines_of base in
+    let b = book_of base in
+    ap (with_past all) it.book
+    ∙ (λ i. record {
+      items = b.items;
+      arrivals = b.arrivals;
+      kept = b.kept;
+      rows = b.rows;
+      lines = append-nil all i;
+    })

@@ -6,7 +6,7 @@ use Rattle.dr_ledger.specs.Books.{Adoption, Line, after}
 use Rattle.dr_store_schema.specs.Books.{AreBelow, bodies_of, book_of}
 use Rattle.dr_store_calls.specs.Calling.{IsLedgerOf}
 use Rattle.dr_store_calls.specs.Adoptions.{AdoptsPlan, IsAdopted}
-use Rattle.dr_store_calls.specs.Owners.{IsOwnedBy, IsOwnedWith}
+use Rattle.dr_store_calls.specs.Owners.{IsOwnedBy, IsOwnedSo}
 
 -- What an adoption makes of the tables is what it makes of the book; the data sets are the same.
 abbrev pub AdoptionsAdopt : Type 0
@@ -25,18 +25,18 @@ AdoptedLedgersAreOfTheNext =
     → IsOwnedBy next new
     → IsLedgerOf past (n + 1) next new
 
--- Tables have one owner: one node, one plan, and one mark.
+-- Tables have one owner: one node, one plan, one mark, and one seal.
 abbrev pub OwnersAreOne : Type 0
 OwnersAreOne =
-    (mark last : List ℕ) (part other : Part) (db : Trees)
-    → IsOwnedWith mark part db → IsOwnedWith last other db
-    → (part.name ≡ other.name) × (part.digest ≡ other.digest) × (mark ≡ last)
+    (mark seal last end : List ℕ) (part other : Part) (db : Trees)
+    → IsOwnedSo mark seal part db → IsOwnedSo last end other db
+    → (part.name ≡ other.name) × (part.digest ≡ other.digest) × (mark ≡ last) × (seal ≡ end)
 
--- Whatever the mark was before an adoption, it is the same after it.
-abbrev pub AdoptionsKeepTheMark : Type 0
-AdoptionsKeepTheMark =
-    (part next : Part) (mark : List ℕ) (base db : Trees)
-    → IsAdopted next base db → IsOwnedWith mark part base → IsOwnedWith mark next db
+-- Whatever mark and seal were before an adoption, they are the same after it.
+abbrev pub AdoptionsKeepMarkAndSeal : Type 0
+AdoptionsKeepMarkAndSeal =
+    (part next : Part) (mark seal : List ℕ) (base db : Trees)
+    → IsAdopted next base db → IsOwnedSo mark seal part base → IsOwnedSo mark seal next db
 
 -- Where site has no row, nobody owns the tables.
 abbrev pub EmptyTablesAreOwnedByNone : Type 0

@@ -13,7 +13,7 @@ use Rattle.dr_ledger.specs.Replies.{LastsAfter}
 use Rattle.dr_store_schema.specs.Books.{bodies_of, book_of, rows_of}
 use Rattle.dr_store_writes.specs.Effects.{IsSiteOf, adopted_line}
 use Rattle.dr_store_calls.specs.Calling.{IsKept, IsLeftLedger, advanced}
-use Rattle.dr_store_calls.specs.Owners.{IsOwnedWith}
+use Rattle.dr_store_calls.specs.Owners.{IsOwnedSo}
 
 -- ---- the tables
 
@@ -55,13 +55,15 @@ pub record AdoptsPlan (plan : List ℕ) (n : ℕ) (moment : Option ℕ) (old new
 
 -- ---- whose the tables are
 
--- a site of the same node owned the tables, and the next one owns them, with the same mark
+-- a site of the same node owned the tables, and the next one owns them, with the same mark and the
+-- same seal
 pub record IsTakenOver (next : Part) (base db : Trees) : Type 0 where
   pub was : Part
   pub node : was.name ≡ next.name
   pub mark : List ℕ
-  pub owned : IsOwnedWith mark was base
-  pub owns : IsOwnedWith mark next db
+  pub seal : List ℕ
+  pub owned : IsOwnedSo mark seal was base
+  pub owns : IsOwnedSo mark seal next db
 
 -- ---- the call
 

@@ -7,4 +7,5 @@ pub mod Needs
 pub mod Owners
 pub mod PastLaws
 pub mod Receiving
+pub mod Sealing
 pub mod Shelving

@@ -1,32 +1,31 @@
 -- Laws of ledgers over a past.
-use Rattle.std.specs.Prelude.{◌≡◌, ◌+◌, ℕ, List, [], ◌++◌, length}
+use Rattle.std.specs.Prelude.{◌≡◌, ◌+◌, ℕ, List, ◌++◌, length}
 use Rattle.sqlite.specs.Tree.{Trees}
 use Rattle.dr_site.specs.Parts.{Part}
 use Rattle.dr_ledger.specs.Books.{Line}
 use Rattle.dr_ledger_past.specs.Pasts.{with_past}
 use Rattle.dr_store_schema.specs.Books.{book_of, lines_of}
+use Rattle.dr_store_changes.specs.Sealing.{SealsLines}
 use Rattle.dr_store_calls.specs.Calling.{IsLedgerOf}
+use Rattle.dr_store_calls.specs.Owners.{IsOwnedBy}
+use Rattle.dr_store_calls.specs.Sealing.{HasSealed}
 
--- all lines have left the tables, with the names of where they went; all other tables stay
-pub record LinesLeft (old new : Trees) : Type 0 where
-  pub journal : new 11 ≡ []
-  pub targets : new 12 ≡ []
-  pub site : new 0 ≡ old 0
-  pub items : new 1 ≡ old 1
-  pub prints : new 3 ≡ old 3
-  pub arrivals : new 5 ≡ old 5
-  pub kept : new 7 ≡ old 7
-  pub queue : new 9 ≡ old 9
-
--- Lines leave a ledger's tables and stand behind its past then. The tables are still those of the
--- same ledger, over that past, the book with its past is the same, and the next line has the same
--- number.
+-- Lines leave a ledger's tables and stand behind its past then. Where the site owns the tables
+-- still, they are those of the same ledger, over that past; the book with its past is the same, and
+-- the next line has the same number.
 abbrev pub LinesMayLeave : Type 0
 LinesMayLeave =
-    (past : List Line) (n : ℕ) (part : Part) (old new : Trees)
-    → IsLedgerOf past n part old → LinesLeft old new
+    (past : List Line) (n : ℕ) (part : Part) (plan : List ℕ) (old new : Trees)
+    → IsLedgerOf past n part old → SealsLines plan old new → IsOwnedBy part new
     → IsLedgerOf (past ++ lines_of old) n part new
     × (with_past (past ++ lines_of old) (book_of new) ≡ with_past past (book_of old))
+
+-- The book with its past is the same after a sealing.
+abbrev pub SealingsKeepTheBook : Type 0
+SealingsKeepTheBook =
+    (past : List Line) (seal : List ℕ) (part : Part) (base db : Trees)
+    → HasSealed seal part base db
+    → with_past (past ++ lines_of base) (book_of db) ≡ with_past past (book_of base)
 
 -- The next line's number is one above the count of all lines, those of the past too.
 abbrev pub NumbersCountAllLines : Type 0

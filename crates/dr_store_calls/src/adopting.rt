@@ -42,7 +42,8 @@ fn write_plan<S: Alter>(
     }
 }
 
-/// Adopts the plan of the next site, with this mark, where the tables have this owner.
+/// Adopts the plan of the next site, with this mark and this seal, where the tables have this
+/// owner.
 fn adopt_with<S: Alter>(
     conn: &mut Connection<S>,
     alloc: Global,
@@ -50,16 +51,17 @@ fn adopt_with<S: Alter>(
     moment: Option<u64>,
     next: &Site,
     mark: &[u8],
+    seal: &[u8],
 ) -> Result<(), LedgerFault>
     requires { conn.old.in_transaction ≡ false }
     ensures adopted { (part : Part) (was : List ℕ) (digest : List ℕ)
-        → IsPlanWith mark.now digest was
+        → IsPlanWith mark.now seal.now digest was
         → Adopted n part next.now result (state S.Store conn.old) (state S.Store conn.new)
         (IsSiteOf next.now.name was) }
     ensures number { OnOk result (n ≤ 2 ^ 62) }
     ensures idle { conn.new.in_transaction ≡ false }
 {
-    match plan_cell(alloc, next.digest(), mark) {
+    match plan_cell(alloc, next.digest(), mark, seal) {
         Ok(cell) => write_plan(conn, n, moment, &cell),
         Err(_) => Err(LedgerFault::Memory),
     }
@@ -84,16 +86,16 @@ fn adopt_from<S: Alter>(
     if !owner.node.is_same(next.name()) {
         return Err(LedgerFault::Store);
     }
-    let Some(mark) = mark_behind(owner.plan.as_bytes()) else {
+    let Some((mark, seal)) = mark_behind(owner.plan.as_bytes()) else {
         return Err(LedgerFault::Store);
     };
-    adopt_with(conn, alloc, n, moment, next, mark)
+    adopt_with(conn, alloc, n, moment, next, mark, seal)
 }
 
 /// Adopts the plan of the next site of the tables' node, as line `n` of the journal, at that
 /// moment: arrivals and done rows leave, and the tables are from now on those of a ledger of that
-/// site. Data sets stay, since just those are needed that were needed before, and so does the mark
-/// of the file that has them.
+/// site. Data sets stay, since just those are needed that were needed before, and so do the mark of
+/// the file that has them, and how far lines go that have left the tables.
 ///
 /// Errors: Store, also where the tables aren't those of the next site's node, or nobody owns them,
 /// or the journal is full; Memory.

@@ -1,6 +1,6 @@
 //! What an adoption makes of the book.
 ghost use Rattle.dr_store_calls.specs.AdoptionLaws.{AdoptedLedgersAreOfTheNext, AdoptionsAdopt};
-ghost use Rattle.dr_store_calls.specs.AdoptionLaws.{AdoptionsKeepTheMark, OwnersAreOne};
+ghost use Rattle.dr_store_calls.specs.AdoptionLaws.{AdoptionsKeepMarkAndSeal, OwnersAreOne};
 ghost use Rattle.dr_store_calls.specs.AdoptionLaws.{EmptyTablesAreOwnedByNone};
 
 /// Where arrivals and done rows leave, and the line of an adoption stands in the journal, the book
@@ -14,7 +14,7 @@ pub fn adopted_ledgers_are_of_the_next()
     ensures { AdoptedLedgersAreOfTheNext }
 {}
 
-/// Tables have one owner, with one mark.
+/// Tables have one owner, with one mark and one seal.
 pub fn owners_are_one()
     ensures { OwnersAreOne }
 {}
@@ -24,7 +24,8 @@ pub fn empty_tables_are_owned_by_none()
     ensures { EmptyTablesAreOwnedByNone }
 {}
 
-/// No adoption loses the mark of the file that has a ledger's data sets.
-pub fn adoptions_keep_the_mark()
-    ensures { AdoptionsKeepTheMark }
+/// No adoption loses the mark of the file that has a ledger's data sets, nor how far lines go that
+/// have left its tables.
+pub fn adoptions_keep_mark_and_seal()
+    ensures { AdoptionsKeepMarkAndSeal }
 {}

@@ -47,7 +47,7 @@ fn note_plan<'x, S: Alter>(
 /// The plan that is in force from now on.
 #[derive(Drop)]
 pub struct NewPlan<'x> {
-    /// What site has for it: its SHA-256, and the mark behind it.
+    /// What site has for it: its SHA-256, and behind it the mark and the seal.
     pub cell: &'x [u8],
     /// The moment (milliseconds), if it is known.
     pub moment: Option<u64>,

@@ -1,8 +1,7 @@
 -- First arrivals, one part after another.
-use Rattle.std.proofs.Common.{◌≡◌, ◌==◌, ℕ, pos, List, [], ◌∷◌, Bool, true, false, cond, Option, Some, None, IsSome, Ok, Result, refl, sym, ap, subst, ◌∙◌}
+use Rattle.std.proofs.Common.{◌≡◌, ◌==◌, ℕ, List, [], Bool, true, false, cond, Option, None, IsSome, Ok, Result, refl, sym, ap, subst, ◌∙◌}
 use Rattle.std.specs.Cmp.Lexicographic.{nat_list_cmp_total}
 use Rattle.std.specs.FinMap as map
-use Rattle.std.specs.FinMap.{FinMap}
 use Rattle.std.specs.FinSet as set
 use Rattle.std.specs.Ordering.{eq_by_cmp}
 use Rattle.std.proofs.lemmas.Map.Lookups.{exact_bytes}
@@ -20,8 +19,8 @@ use Rattle.dr_store_writes.specs.Effects.{AddsRow, GoesOn, StatementStep, arrive
 use Rattle.dr_store_writes.proofs.Maps.{equal}
 use Rattle.dr_store_changes.specs.declared.first.Taking.{Taking}
 use Rattle.dr_store_changes.specs.declared.first.Taking.TheVariants as taking
-use Rattle.dr_store_changes.specs.Bringing.{AsksToTake, Brings, KeepsIf, TakesInItem, Then}
-use Rattle.dr_store_changes.specs.Changes.{AddsOnlyLine, AddsRows, AddsTargets, HasBoth, HasNeither, HasRows, KeepsOne, NotesArrival, Renews, Stores, TakesBack, with_names, with_waiting}
+use Rattle.dr_store_changes.specs.Bringing.{Brings, KeepsIf, TakesInItem, Then}
+use Rattle.dr_store_changes.specs.Changes.{AddsOnlyLine, AddsRows, AddsTargets, HasNeither, HasRows, KeepsOne, NotesArrival, Renews, Stores, TakesBack, with_names, with_waiting}
 use Rattle.dr_store_changes.specs.Writing.{IsMade}
 use Rattle.dr_store_changes.proofs.Arrivals.{only_line}
 use Rattle.dr_store_changes.proofs.LettingGo.{back_body, body_at, gone_body}

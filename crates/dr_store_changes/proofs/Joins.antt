@@ -1,5 +1,5 @@
 -- What first arrivals make of the book, and of its data sets.
-use Rattle.std.proofs.Common.{◌≡◌, ◌≢◌, ◌↔◌, inl, inr, ℕ, pos, ◌<◌, ◌==◌, List, [], ◌∷◌, ◌++◌, Contains, map as mapped, Bool, true, false, cond, not, ◌&&◌, ◌||◌, T, is_some, Option, Some, None, unwrap_or, refl, sym, ap, subst, ◌∙◌, true≢false, arith, ne_eqb, eq-eqb}
+use Rattle.std.proofs.Common.{◌≡◌, ◌↔◌, inl, inr, ℕ, pos, ◌<◌, ◌==◌, List, [], ◌∷◌, ◌++◌, Contains, map as mapped, Bool, true, false, cond, not, ◌&&◌, ◌||◌, T, is_some, Some, None, unwrap_or, refl, sym, ap, subst, ◌∙◌, true≢false, arith, ne_eqb, eq-eqb}
 use Rattle.std.specs.Cmp.Lexicographic.{nat_list_cmp_total}
 use Rattle.std.specs.declared.cmp.Ordering.{Ordering}
 use Rattle.std.specs.declared.cmp.Ordering.TheVariants.{Less, Equal, Greater}
@@ -17,8 +17,8 @@ use Rattle.std.proofs.lemmas.Map.Views.{tells_apart}
 use Rattle.sqlite.specs.declared.types.Value.{Value}
 use Rattle.sqlite.specs.declared.types.Value.TheVariants.{Int}
 use Rattle.sqlite.specs.Order.{Row, column}
-use Rattle.sqlite.specs.Tree.{Trees, put_row, rowid}
-use Rattle.dr_base.specs.Texts.{IsInByteOrder, Text, text_cmp}
+use Rattle.sqlite.specs.Tree.{rowid}
+use Rattle.dr_base.specs.Texts.{Text, text_cmp}
 use Rattle.dr_route.specs.Routes.{local}
 use Rattle.dr_plan_model.proofs.Gathered.{Contains-cons_cases, nothing_in_nil}
 use Rattle.dr_ledger.specs.declared.item.Instance.{Instance}
@@ -27,13 +27,12 @@ use Rattle.dr_ledger.specs.Books.{Book, Arrival, after}
 use Rattle.dr_ledger.proofs.Growing.{kept_from, still_kept}
 use Rattle.dr_ledger.proofs.Maps.{get_new, get_other, same_or_not, texts, ties_itself}
 use Rattle.dr_ledger.proofs.PlanRouting.{any_from, one_list, or_right}
-use Rattle.dr_store_schema.specs.Books.{AreBelow, NameSet, all_kept_in, arrivals_in, bodies_of, book_of, instance_in, items_of, line_by, line_in, lines_in, lines_of, names_in, numbered_line, rows_of}
+use Rattle.dr_store_schema.specs.Books.{AreBelow, NameSet, all_kept_in, instance_in, items_of, line_by, line_in, lines_in, lines_of, names_in, numbered_line, rows_of}
 use Rattle.dr_store_schema.specs.Cells.{number_in, outcome_in, text_in}
-use Rattle.dr_store_writes.specs.Effects.{arrived_line}
 use Rattle.dr_store_writes.proofs.Maps.{equal}
 use Rattle.dr_store_changes.specs.declared.first.Taking.{Taking}
 use Rattle.dr_store_changes.specs.declared.first.Taking.TheVariants as taking
-use Rattle.dr_store_changes.specs.Bringing.{AreTargets, Brings, HasCells, IsKnownFor, bodies_taken, items_taken, names_for}
+use Rattle.dr_store_changes.specs.Bringing.{AreTargets, HasCells, IsKnownFor, bodies_taken, items_taken, names_for}
 use Rattle.dr_store_changes.specs.Changes.{with_names}
 use Rattle.dr_store_changes.specs.Laws.{ArrivalsArrive, ComesWhereNeeded, DataSetsCome}
 use Rattle.dr_store_changes.proofs.Bookings.{came}

@@ -9,6 +9,7 @@ pub mod LettingGo
 pub mod Movements
 pub mod NewRows
 pub mod Numbers
+pub mod Sealings
 pub mod Sets
 pub mod Steps
 pub mod Together

@@ -1,5 +1,5 @@
 -- First arrivals: what each makes of the tables.
-use Rattle.std.specs.Prelude.{◌≡◌, ◌≤◌, ◌==◌, ◌&&◌, ◌↔◌, ℕ, Bool, cond, not, List, [], ◌∷◌}
+use Rattle.std.specs.Prelude.{◌≡◌, ◌≤◌, ◌==◌, ◌↔◌, ℕ, Bool, cond, not, List, ◌∷◌}
 use Rattle.std.specs.Prelude.{Contains, filter, true, false, Option, None, Some}
 use Rattle.std.specs.FinMap as map
 use Rattle.std.specs.FinMap.{FinMap}
@@ -12,7 +12,7 @@ use Rattle.dr_ledger.specs.declared.item.Progress.{Progress}
 use Rattle.dr_ledger.specs.declared.item.Progress.TheVariants.{Waiting, Held, Done, Dropped}
 use Rattle.dr_ledger.specs.Bodies.{Bodies, IsNeeded}
 use Rattle.dr_ledger.specs.Books.{Book, with_rows}
-use Rattle.dr_ledger.specs.Pairs.{Pair, pair_cmp}
+use Rattle.dr_ledger.specs.Pairs.{pair_cmp}
 use Rattle.dr_store_schema.specs.Books.{all_kept_in, arrivals_in, bodies_of, items_of}
 use Rattle.dr_store_schema.specs.Books.{names_in, rows_of}
 use Rattle.dr_store_writes.specs.Effects.{arrived_line}

@@ -1,4 +1,5 @@
 pub mod Bringing
 pub mod Changes
 pub mod Laws
+pub mod Sealing
 pub mod Writing

@@ -56,19 +56,28 @@ pub record IsReady (n : ℕ) (s : State) : Type 0 where
 abbrev pub AreLedgers : Trees → Type 0
 AreLedgers db = IsLedger (record { schema = tables; trees = db })
 
--- What a call that writes does, where the tables are as it asks. Where it is accepted, the tables
--- committed are what it makes of those committed before, and the next line's number is one more.
--- Where it is refused, and the store is open still, the tables committed are those from before. And
--- a crash leaves, whatever the call answered, what it could leave before, or what the call makes,
--- a database with a ledger's tables: never a part of it.
-pub record Written {E : Type 0} (n : ℕ) (Asks : Trees → Type 0) (Makes : Trees → Trees → Type 0)
+-- What one transaction does, where the tables are as it asks; the next line has number n before it
+-- and m after it. Where it is accepted, the tables committed are what it makes of those committed
+-- before. Where it is refused, and the store is open still, the tables committed are those from
+-- before. And a crash leaves, whatever the call answered, what it could leave before, or what the
+-- call makes, a database with a ledger's tables: never a part of it.
+pub record Transacted {E : Type 0} (n m : ℕ) (Asks : Trees → Type 0)
+    (Makes : Trees → Trees → Type 0)
     (result : Result (Unit {0}) E) (old new : State) : Type 0 where
   pub was_open : HasCleanDisk new → IsTrue new.is_open → IsTrue old.is_open
   pub ok : HasCleanDisk new → IsReady n old → Asks old.now.trees
-      → OnOk result (IsReady (n + 1) new × Makes old.committed.trees new.committed.trees)
+      → OnOk result (IsReady m new × Makes old.committed.trees new.committed.trees)
   pub err : HasCleanDisk new → IsTrue new.is_open → OnErr result (new.committed ≡ old.committed)
   pub ready : HasCleanDisk new → IsTrue new.is_open → IsReady n old → Asks old.now.trees
       → OnErr result (IsReady n new)
   pub crash : IsReady n old → Asks old.now.trees
       → Survives old new (λ db. AreLedgers db × Makes old.committed.trees db)
   pub clean : doubt old.is_clean ≤ doubt new.is_clean
+
+-- What a call does that adds a line, as one transaction: the next line's number is one more.
+abbrev pub Written : {E : Type 0} → ℕ
+    → (Trees → Type 0)
+    → (Trees → Trees → Type 0)
+    → Result (Unit {0}) E
+    → State → State → Type 0
+Written n Asks Makes result old new = Transacted n (n + 1) Asks Makes result old new

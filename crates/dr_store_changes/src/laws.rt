@@ -4,6 +4,7 @@ ghost use Rattle.dr_store_changes.specs.Laws.{ForgettingsForget, ForgettingsLetN
 ghost use Rattle.dr_store_changes.specs.Laws.{ForgettingsTakeBoth, LinesCountUp};
 ghost use Rattle.dr_store_changes.specs.Laws.{RepeatsRepeat, RequeuingsRequeue, SettlingsSettle};
 ghost use Rattle.dr_store_changes.specs.Laws.{WhatIsNeededStays, WhatIsNeededStaysAtADropping};
+ghost use Rattle.dr_store_changes.specs.Sealing.{SealingsTakeJustLines};
 
 /// To move a waiting row on with the line of its settling is to settle it.
 pub fn settlings_settle()
@@ -65,4 +66,9 @@ pub fn lines_count_up()
 /// What is over has no data set that a forgetting could let go.
 pub fn forgettings_let_no_data_set_go()
     ensures { ForgettingsLetNoDataSetGo }
+{}
+
+/// What a sealing takes out of the tables it takes out of the book: its lines, and nothing else.
+pub fn sealings_take_just_lines()
+    ensures { SealingsTakeJustLines }
 {}

@@ -8,6 +8,7 @@ mod first;
 mod forgetting;
 pub mod laws;
 mod moving;
+mod sealing;
 mod writing;
 
 pub use arriving::Repeating;
@@ -15,4 +16,5 @@ pub use dropping::Dropping;
 pub use first::{Arriving, Taking};
 pub use forgetting::Forgetting;
 pub use moving::{Requeuing, Settling};
+pub use sealing::seal;
 pub use writing::{TableChange, write};

@@ -1,6 +1,7 @@
 -- What a new ledger's tables are, and what isn't a ledger's.
 use Rattle.std.proofs.Common.{◌≡◌, ◌∙◌, ◌+◌, ◌++◌, ℕ, false, inl, inr, List, [], ◌∷◌, Some}
 use Rattle.std.proofs.Common.{is_some, drop, drop_at, length, refl, sym, ap, subst, arith}
+use Rattle.std.proofs.lemmas.List.{append-nil}
 use Rattle.std.specs.Ordering.{nat_cmp}
 use Rattle.std.specs.FinMap as map
 use Rattle.sqlite.specs.Effect.{Database}
@@ -20,8 +21,8 @@ use Rattle.dr_store_schema.proofs.WhatIsWritten.{empty_tables_are_empty, no_entr
 use Rattle.dr_store_writes.specs.Effects.{IsSiteOf}
 use Rattle.dr_store_reads.specs.declared.finding.Print.{Print}
 use Rattle.dr_store_lists.specs.declared.listing.JournalRow.{JournalRow}
-use Rattle.dr_store_calls.specs.Owners.{IsMark, IsOwnedBy}
-use Rattle.dr_store_calls.proofs.Owners.{mark_of, one_owner, owned_by_none, owners_are_one}
+use Rattle.dr_store_calls.specs.Owners.{IsMark, IsMarkAndSeal, IsOwnedBy}
+use Rattle.dr_store_calls.proofs.Owners.{behind_of, marks_are_one, one_owner, owned_by_none}
 use Rattle.dr_store_audit.specs.Journal.{CountUp}
 use Rattle.dr_store_open.specs.Opening.{BadTablesAreNone, HasLedgerOf, LedgersAreOne}
 use Rattle.dr_store_open.specs.Opening.{NewLedgersAreLedgers, new_trees}
@@ -67,7 +68,8 @@ module _ (part : Part) (mark : List ℕ) where
   new_ledger_is : length part.digest ≡ 32 → IsMark mark → HasLedgerOf 1 part (record { schema = tables; trees = new_trees part mark })
   new_ledger_is long marked = record {
     schema = refl;
-    owned = (mark, (part.digest ++ mark, record { long = long; marked = marked; is = refl }, refl));
+    owned =
+        (mark, ([], (part.digest ++ mark, record { long = long; marked = marked; sealed = inl refl; is = ap (λ x. part.digest ++ x) (sym (append-nil mark)) }, refl)));
     agreed = record {
       next = ap (λ (b : Book). length b.lines + 1) (sym book);
       below = tt;
@@ -94,26 +96,27 @@ new_ledgers_are part mark long marked = new_ledger_is part mark long marked
 pub ledgers_are_one : LedgersAreOne
 ledgers_are_one n m part other db one two =
     let owner =
-    owners_are_one one.owned.0 two.owned.0 part other db.trees one.owned.1 two.owned.1 in
+    marks_are_one one.owned.0 two.owned.0 part other db.trees one.owned.1 two.owned.1 in
     (one.agreed.next ∙ sym two.agreed.next, owner.0, owner.1)
 
--- the cell of an owner, beside one that has no mark
-no_owner : (part : Part) (db : Database) (node : Text) (digest mark : List ℕ)
-    → IsSiteOf node (digest ++ mark) db.trees → length digest ≡ 32 → (IsMark mark → ⊥)
+-- the cell of an owner, beside one that has no mark and seal
+no_owner : (part : Part) (db : Database) (node : Text) (digest behind : List ℕ)
+    → IsSiteOf node (digest ++ behind) db.trees → length digest ≡ 32
+    → ((mark seal : List ℕ) → IsMarkAndSeal mark seal behind → ⊥)
     → IsOwnedBy part db.trees → ⊥
-no_owner part db node digest mark site long other owned =
-    let last = owned.0 in
-    let it = owned.1 in
-    let same = (one_owner db.trees node part.name (digest ++ mark) it.0 site it.2).1 in
-    let is : last ≡ mark =
-    sym (mark_of last part.digest it.0 it.1) ∙ ap (drop 32) (sym same) ∙ drop_at digest mark 32 long in
-    other (subst IsMark is it.1.marked)
+no_owner part db node digest behind site long other owned =
+    let mark = owned.0 in
+    let seal = owned.1.0 in
+    let it = owned.1.1 in
+    let same = (one_owner db.trees node part.name (digest ++ behind) it.0 site it.2).1 in
+    let is : drop 32 it.0 ≡ behind = ap (drop 32) (sym same) ∙ drop_at digest behind 32 long in
+    other mark seal (subst (IsMarkAndSeal mark seal) is (behind_of mark seal part.digest it.0 it.1))
 
 pub bad_tables_are_none : BadTablesAreNone
 bad_tables_are_none = record {
   unowned = λ part db none n is. owned_by_none part db.trees none is.owned;
-  unmarked = λ part db node digest mark site long other n is.
-      no_owner part db node digest mark site long other is.owned;
+  unmarked = λ part db node digest behind site long other n is.
+      no_owner part db node digest behind site long other is.owned;
   renumbered = λ part db note rest all n is.
       let up : CountUp 1 ((2, note) ∷ rest) = subst (CountUp 1) all is.agreed.hold.numbered in
       let same : 2 ≡ 1 = up.0 in

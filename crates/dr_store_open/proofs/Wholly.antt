@@ -21,7 +21,7 @@ use Rattle.dr_store_data.specs.declared.mark.DataMark.{DataMark}
 use Rattle.dr_store_data.specs.Heads.{IsMarkOf}
 use Rattle.dr_store_calls.specs.Owners.{IsMark, IsOwnedBy, IsPlanWith}
 use Rattle.dr_store_calls.specs.Calling.{IsKept, IsLedgerOf}
-use Rattle.dr_store_calls.proofs.Owners.{owners_are_one}
+use Rattle.dr_store_calls.proofs.Owners.{marks_are_one}
 use Rattle.dr_store_lists.specs.Lists.{IsJournal, line_of, note_in}
 use Rattle.dr_store_lists.specs.declared.listing.JournalRow.{JournalRow}
 use Rattle.dr_store_audit.specs.Found.{HoldTogether}
@@ -94,13 +94,13 @@ whole_if part place db (Some found) agrees says = agrees says
 -- ---- where the data sets are
 
 -- what the owner's row says of the place
-pub placed : (part : Part) (db : Trees) (mark cell : List ℕ) (place : Option DataPlace)
-    → IsPlanWith mark part.digest cell → IsSiteOf part.name cell db
+pub placed : (part : Part) (db : Trees) (mark seal cell : List ℕ) (place : Option DataPlace)
+    → IsPlanWith mark seal part.digest cell → IsSiteOf part.name cell db
     → MatchOption place (IsMark mark → ⊥) (IsPlaceIn mark)
     → MatchOption place (IsOwnedBy part db → ⊥) (IsPlaceOf part db)
-placed part db mark cell None with site none = λ owned. none with.marked
-placed part db mark cell (Some put.InRows) with site is = (cell, subst (λ m. IsPlanWith m part.digest cell) is with, site)
-placed part db mark cell (Some (put.InFile said)) with site is = (mark, (cell, with, site), is)
+placed part db mark seal cell None with site none = λ owned. none with.marked
+placed part db mark seal cell (Some put.InRows) with site is = (seal, (cell, subst (λ m. IsPlanWith m seal part.digest cell) is with, site))
+placed part db mark seal cell (Some (put.InFile said)) with site is = (mark, (seal, (cell, with, site)), is)
 
 pub owned_at : (part : Part) (db : Trees) (place : DataPlace) → IsPlaceOf part db place → IsOwnedBy part db
 owned_at part db put.InRows is = ([], is)
@@ -119,11 +119,11 @@ one_mark mark last a b one two same = λ i. record {
 pub places_are_one : PlacesAreOne
 places_are_one part other db put.InRows put.InRows one two = refl
 places_are_one part other db put.InRows (put.InFile said) one two =
-    absurd (no_mark two.0 said two.2 (owners_are_one [] two.0 part other db one two.1).2)
+    absurd (no_mark two.0 said two.2 (marks_are_one [] two.0 part other db one two.1).2)
 places_are_one part other db (put.InFile said) put.InRows one two =
-    absurd (no_mark one.0 said one.2 (sym (owners_are_one one.0 [] part other db one.1 two).2))
+    absurd (no_mark one.0 said one.2 (sym (marks_are_one one.0 [] part other db one.1 two).2))
 places_are_one part other db (put.InFile said) (put.InFile beside) one two =
-    ap put.InFile (one_mark one.0 two.0 said beside one.2 two.2 (owners_are_one one.0 two.0 part other db one.1 two.1).2)
+    ap put.InFile (one_mark one.0 two.0 said beside one.2 two.2 (marks_are_one one.0 two.0 part other db one.1 two.1).2)
 
 -- ---- an opening
 

@@ -29,7 +29,7 @@ use Rattle.dr_store_lists.specs.declared.listing.JournalRow.{JournalRow}
 use Rattle.dr_store_changes.specs.Writing.{IsReady}
 use Rattle.dr_store_data.specs.declared.mark.DataMark.{DataMark}
 use Rattle.dr_store_data.specs.Heads.{HasHead, IsMarkOf}
-use Rattle.dr_store_calls.specs.Owners.{IsMark, IsOwnedBy, IsOwnedWith}
+use Rattle.dr_store_calls.specs.Owners.{IsMark, IsMarkAndSeal, IsOwnedBy, IsOwnedWith}
 use Rattle.dr_store_calls.specs.Calling.{IsKept}
 use Rattle.dr_store_audit.specs.Found.{HoldTogether}
 use Rattle.dr_store_audit.specs.Older.{IsOlder}
@@ -317,14 +317,14 @@ LedgersAreOne =
     → HasLedgerOf n part db → HasLedgerOf m other db
     → (n ≡ m) × (part.name ≡ other.name) × (part.digest ≡ other.digest)
 
--- without an owner, with other bytes behind a plan's SHA-256 than those of a mark, or with a line
--- under another number than its place, there is none
+-- without an owner, with other bytes behind a plan's SHA-256 than those of a mark and a seal, or
+-- with a line under another number than its place, there is none
 pub record BadTablesAreNone : Type 0 where
   pub unowned : (part : Part) (db : Database) → db.trees 0 ≡ [] → HasNoLedgerOf part db
-  pub unmarked : (part : Part) (db : Database) (node : Text) (digest mark : List ℕ)
-      → IsSiteOf node (digest ++ mark) db.trees
+  pub unmarked : (part : Part) (db : Database) (node : Text) (digest behind : List ℕ)
+      → IsSiteOf node (digest ++ behind) db.trees
       → length digest ≡ 32
-      → (IsMark mark → ⊥)
+      → ((mark seal : List ℕ) → IsMarkAndSeal mark seal behind → ⊥)
       → HasNoLedgerOf part db
   pub renumbered : (part : Part) (db : Database) (note : JournalRow) (rest : List (ℕ × JournalRow))
       → map.entries (notes_of db.trees) ≡ (2, note) ∷ rest

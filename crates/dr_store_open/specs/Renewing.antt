@@ -73,10 +73,10 @@ pub record IsMadeFor (node : Text) (cell : List ℕ) (db : Database) : Type 0 wh
   pub owner : IsOwnerAsShown rows (Some (record { node = node; plan = cell }))
   pub others : HasNoRows db
 
--- for the site, with this mark
+-- for the site, with this mark, and no seal
 abbrev pub IsMadeWith : List ℕ → Part → Database → Type 0
 IsMadeWith mark part db =
-    (cell : List ℕ) × IsPlanWith mark part.digest cell × IsMadeFor part.name cell db
+    (cell : List ℕ) × IsPlanWith mark [] part.digest cell × IsMadeFor part.name cell db
 
 -- with some mark
 abbrev pub IsMadeBy : Part → Database → Type 0

@@ -62,7 +62,7 @@ fn place_of(owner: &Owner, site: &Site) -> Option<DataPlace>
         return None;
     }
     match mark_for(owner.plan.as_bytes(), site.digest()) {
-        Some(mark) => place_in(mark),
+        Some((mark, _)) => place_in(mark),
         None => None,
     }
 }

@@ -170,7 +170,7 @@ pub fn make<S: Alter>(
     if !is_mark(mark) {
         return Err(OpeningFault::Store);
     }
-    match plan_cell(alloc, site.digest(), mark) {
+    match plan_cell(alloc, site.digest(), mark, &[]) {
         Ok(cell) => make_for(conn, site.name(), &cell),
         Err(_) => Err(OpeningFault::Memory),
     }

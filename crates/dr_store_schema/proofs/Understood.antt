@@ -145,6 +145,14 @@ pub set_plan_plain : IsPlain (understood tables text.set_plan)
 unfolding understood everything
 set_plan_plain = (refl, refl)
 
+pub drop_targets_plain : IsPlain (understood tables text.drop_targets)
+unfolding understood everything
+drop_targets_plain = (refl, refl)
+
+pub drop_lines_plain : IsPlain (understood tables text.drop_lines)
+unfolding understood everything
+drop_lines_plain = (refl, refl)
+
 pub the_site_plain : IsPlain (understood tables text.the_site)
 unfolding understood everything
 the_site_plain = (refl, refl)
@@ -262,6 +270,8 @@ statements_are_understood = record {
   insert_forgotten = insert_forgotten_plain;
   insert_site = insert_site_plain;
   set_plan = set_plan_plain;
+  drop_targets = drop_targets_plain;
+  drop_lines = drop_lines_plain;
   the_site = the_site_plain;
   find_key = find_key_plain;
   find_item = find_item_plain;

@@ -55,6 +55,8 @@ pub record StatementsAreUnderstood : Type 0 where
   pub insert_forgotten : IsPlain (understood tables text.insert_forgotten)
   pub insert_site : IsPlain (understood tables text.insert_site)
   pub set_plan : IsPlain (understood tables text.set_plan)
+  pub drop_targets : IsPlain (understood tables text.drop_targets)
+  pub drop_lines : IsPlain (understood tables text.drop_lines)
   pub the_site : IsPlain (understood tables text.the_site)
   pub find_key : IsPlain (understood tables text.find_key)
   pub find_item : IsPlain (understood tables text.find_item)

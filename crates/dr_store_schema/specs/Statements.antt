@@ -150,9 +150,19 @@ insert_adopted = codes
 abbrev pub insert_site : List ℕ
 insert_site = codes "INSERT INTO site (id, node, plan) VALUES (1, ?1, ?2)"
 
--- the plan in force is another
+-- what stands for the plan in force is another
 abbrev pub set_plan : List ℕ
 set_plan = codes "UPDATE site SET plan = ?1 WHERE id = 1"
+
+-- ---- a sealing
+
+-- where first arrivals go on to leaves, before the lines to which it refers
+abbrev pub drop_targets : List ℕ
+drop_targets = codes "DELETE FROM target"
+
+-- lines leave
+abbrev pub drop_lines : List ℕ
+drop_lines = codes "DELETE FROM journal"
 
 -- ---- looking one up
 

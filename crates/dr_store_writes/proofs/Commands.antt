@@ -207,3 +207,11 @@ drop_print = (refl, (refl, refl))
 pub drop_item : Is text.drop_item (Delete 1 (record { lets = []; body = over 1 (by_uid_at 1) dropped_shown }))
 unfolding understood everything
 drop_item = (refl, (refl, refl))
+
+pub drop_targets : Is text.drop_targets (Delete 7 (record { lets = []; body = over 12 [] dropped_shown }))
+unfolding understood everything
+drop_targets = (refl, (refl, refl))
+
+pub drop_lines : Is text.drop_lines (Delete 6 (record { lets = []; body = over 11 [] dropped_shown }))
+unfolding understood everything
+drop_lines = (refl, (refl, refl))

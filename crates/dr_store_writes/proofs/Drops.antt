@@ -130,6 +130,16 @@ module _ (hit : Row → Bool) where
     two_ways rows apart.1 ints.1,
   )
 
+  module _ (rows : List Row) (ints : AllByRecursion (λ r. IsTrue (is_int (rowid r))) rows) (ids : List ℤ) (same : IsPermutation (map number_of (filter hit rows)) ids) where
+    found : (r : Row) → Has rows r → hit r ≡ true → (b : Bool) → is_gone ids r ≡ b → b ≡ true
+    found r among is true e = refl
+    found r among is false e =
+        let none : AllByRecursion (λ x. has_rowid (number_of x) r ≡ false) (filter hit rows) =
+        all_from_map (λ id. has_rowid id r ≡ false) number_of (filter hit rows)
+        (all-permutation (λ id. has_rowid id r ≡ false) ids (map number_of (filter hit rows)) (IsPermutation-sym _ _ same) (none_of (λ id. has_rowid id r) ids e)) in
+        let mine : has_rowid (number_of r) r ≡ false = all_has (λ x. hit x ≡ true → has_rowid (number_of x) r ≡ false) rows r (each_passed hit (λ x. has_rowid (number_of x) r ≡ false) rows none) among is in
+        absurd (true≢false (sym (its_own r (all_has (λ x. IsTrue (is_int (rowid x))) rows r ints among)) ∙ mine))
+
   module _ (rows : List Row) (are : AreRows rows) (ids : List ℤ) (same : IsPermutation (map number_of (filter hit rows)) ids) where
     missed : (r : Row) → AllByRecursion (AreTwo r) rows → hit r ≡ false → is_gone ids r ≡ false
     missed r two is =
@@ -141,17 +151,8 @@ module _ (hit : Row → Bool) where
         none_any p [] h = refl
         none_any p (x ∷ xs) h = ap (λ b. b || list_any p xs) h.0 ∙ none_any p xs h.1
 
-    found : (r : Row) → Has rows r → hit r ≡ true → (b : Bool) → is_gone ids r ≡ b → b ≡ true
-    found r among is true e = refl
-    found r among is false e =
-        let none : AllByRecursion (λ x. has_rowid (number_of x) r ≡ false) (filter hit rows) =
-        all_from_map (λ id. has_rowid id r ≡ false) number_of (filter hit rows)
-        (all-permutation (λ id. has_rowid id r ≡ false) ids (map number_of (filter hit rows)) (IsPermutation-sym _ _ same) (none_of (λ id. has_rowid id r) ids e)) in
-        let mine : has_rowid (number_of r) r ≡ false = all_has (λ x. hit x ≡ true → has_rowid (number_of x) r ≡ false) rows r (each_passed hit (λ x. has_rowid (number_of x) r ≡ false) rows none) among is in
-        absurd (true≢false (sym (its_own r (all_has (λ x. IsTrue (is_int (rowid x))) rows r are.ints among)) ∙ mine))
-
     gone_as_hit : (r : Row) → AllByRecursion (AreTwo r) rows → Has rows r → (b : Bool) → hit r ≡ b → is_gone ids r ≡ b
-    gone_as_hit r two among true is = found r among is (is_gone ids r) refl
+    gone_as_hit r two among true is = found rows are.ints ids same r among is (is_gone ids r) refl
     gone_as_hit r two among false is = missed r two is
 
     -- the rows of these rowids are those that are hit
@@ -161,6 +162,17 @@ module _ (hit : Row → Bool) where
         ∙ same_tests (λ r. not (is_gone ids r)) (λ r. not (hit r)) rows
         (all_both (λ r. AllByRecursion (AreTwo r) rows) (Has rows) (λ r. not (is_gone ids r) ≡ not (hit r)) (λ r two among. ap not (gone_as_hit r two among (hit r) refl)) rows
         (every_pair AreTwo (λ x a b. absurd (true≢false (sym b ∙ a))) rows (two_ways rows are.apart are.ints)) (members rows))
+
+none_left : (rows : List Row) → filter (λ (r : Row). false) rows ≡ []
+none_left rows = filter_none (λ r. false) rows (all_of (λ (r : Row). ◌≡◌ {A = Bool} false false) (λ r. refl) rows)
+
+-- where all rows are hit, none is left, whether or not their rowids differ
+pub all_gone : (rows : List Row) → AllByRecursion (λ r. IsTrue (is_int (rowid r))) rows → (ids : List ℤ) → IsPermutation (map number_of (filter (λ r. true) rows)) ids → without_all rows ids ≡ []
+all_gone rows ints ids same =
+    left_over ids rows
+    ∙ same_tests (λ r. not (is_gone ids r)) (λ r. false) rows
+    (all_weaker (Has rows) (λ r. not (is_gone ids r) ≡ false) (λ r among. ap not (found (λ r. true) rows ints ids same r among refl (is_gone ids r) refl)) rows (members rows))
+    ∙ none_left rows
 
 -- the rowids that a query answers are those of the rows that it finds
 module _ (tree : ℕ) (conditions : List Term) (db : Trees) (params : Row) (rows : List Row) (answer : IsAnswer (over tree conditions command.dropped_shown) (overlay db []) params rows)
@@ -182,9 +194,6 @@ module _ (tree : ℕ) (conditions : List Term) (db : Trees) (params : Row) (rows
       (answer.distinct ∙ ap (map (output q)) staged ∙ map_twice (λ r. params ∷ r ∷ []) (output q) (filter (hits conditions params) (db tree))) answer.same))
 
 -- ---- an adoption
-
-none_left : (rows : List Row) → filter (λ (r : Row). false) rows ≡ []
-none_left rows = filter_none (λ r. false) rows (all_of (λ (r : Row). ◌≡◌ {A = Bool} false false) (λ r. refl) rows)
 
 drops_arrivals : (old new : State) (count : ℕ) → IsLedger old.now → ExecutesInside 0 text.drop_arrivals [] old new (Ok count) → DropsArrivals old new
 drops_arrivals old new count has h =

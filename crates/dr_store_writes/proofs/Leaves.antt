@@ -1,7 +1,6 @@
 -- What is of one instance leaves a table: just the rows in which its uid stands.
-use Rattle.std.proofs.Common.{◌≡◌, inl, inr, ℕ, ℤ, List, [], ◌∷◌, filter, flat_map, cond, Bool, true, false, not, ◌&&◌, slice_get, Some, Ok, Err, Result, OnOk, refl, sym, ap, subst, ◌∙◌, arith}
+use Rattle.std.proofs.Common.{◌≡◌, inl, inr, ℕ, ℤ, List, [], ◌∷◌, filter, flat_map, cond, Bool, true, false, not, ◌&&◌, slice_get, Some, Ok, Err, Result, OnOk, refl, sym, subst, ◌∙◌, arith}
 use Rattle.std.specs.List.{AllByRecursion}
-use Rattle.std.specs.Ordering.{is_eq}
 use Rattle.sqlite.specs.declared.error.Error.{Error}
 use Rattle.sqlite.specs.declared.types.Value.TheVariants.{Text}
 use Rattle.sqlite.specs.Command.TheVariants.{Delete}

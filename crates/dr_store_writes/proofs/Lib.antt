@@ -2,6 +2,7 @@ pub mod Adds
 pub mod Casts
 pub mod Commands
 pub mod Drops
+pub mod Emptied
 pub mod Inserted
 pub mod Keeping
 pub mod Keys

@@ -3,11 +3,13 @@ use Rattle.std.specs.Prelude.{◌≡◌, ◌≢◌, ℕ, ℤ, pos, Bool, false, 
 use Rattle.std.specs.Prelude.{IsSome, OnOk, Option, Result}
 use Rattle.std.specs.FinMap as map
 use Rattle.std.specs.FinMap.{FinMap}
+use Rattle.std.specs.List.{AllByRecursion}
 use Rattle.sqlite.specs.declared.types.Value.TheVariants.{Null, Int, Text, Blob}
 use Rattle.sqlite.specs.Edit.{is_taken}
 use Rattle.sqlite.specs.Order.{Row, column}
 use Rattle.sqlite.specs.State.{State, HasCleanDisk, KeepsCommit, Survives}
-use Rattle.sqlite.specs.Tree.{Trees, put_row}
+use Rattle.sqlite.specs.Tree.{Trees, put_row, rowid}
+use Rattle.sqlite_trees.specs.View.{is_int}
 use Rattle.dr_base.specs.Texts as texts
 use Rattle.dr_base.specs.Texts.{text_cmp}
 use Rattle.dr_ledger.specs.declared.item.Instance.{Instance}
@@ -208,4 +210,15 @@ is_of_other at uid row = is_other uid (text_in (column row at))
 pub record DropsOf (tree at : ℕ) (uid : texts.Text) (old new : State) : Type 0 where
   pub goes_on : GoesOn old new
   pub rows : new.now.trees tree ≡ filter (is_of_other at uid) (old.now.trees tree)
+  pub others : LeavesOthers tree old.now.trees new.now.trees
+
+-- each row has a number for a rowid
+abbrev pub HaveNumbers : List Row → Type 0
+HaveNumbers = AllByRecursion (λ row. IsTrue (is_int (rowid row)))
+
+-- All rows have left the table of that tree, where each had a number for a rowid, by which it can
+-- be found.
+pub record DropsAll (tree : ℕ) (old new : State) : Type 0 where
+  pub goes_on : GoesOn old new
+  pub rows : HaveNumbers (old.now.trees tree) → new.now.trees tree ≡ []
   pub others : LeavesOthers tree old.now.trees new.now.trees

@@ -1,7 +1,8 @@
-//! Rows that leave, at an adoption, at a forgetting and at a dropping.
+//! Rows that leave, at an adoption, at a forgetting, at a dropping and at a sealing.
 ghost use Rattle.std.specs.Prelude.{◌≡◌};
 ghost use Rattle.sqlite.specs.Held.{state};
-ghost use Rattle.dr_store_writes.specs.Effects.{DropsArrivals, DropsOf, DropsOver, StatementStep};
+ghost use Rattle.dr_store_writes.specs.Effects.{DropsAll, DropsArrivals, DropsOf, DropsOver};
+ghost use Rattle.dr_store_writes.specs.Effects.{StatementStep};
 
 use crate::running::run;
 use dr_base::Text;
@@ -88,4 +89,25 @@ pub fn drop_item<'x, S: Alter>(tx: &mut Transaction<'_, S>, uid: &'x Text) -> Re
         "DELETE FROM item WHERE uid = ?1",
         &[ValueRef::Text(uid.as_bytes())],
     )
+}
+
+/// Where first arrivals go on to leaves, of all lines. It goes before them, since it refers to
+/// them.
+pub fn drop_targets<S: Alter>(tx: &mut Transaction<'_, S>) -> Result<usize, Error>
+    ensures same_reference { tx.new.conn.ghost_name ≡ tx.old.conn.ghost_name }
+    ensures step { StatementStep result (state S.Store tx.old.conn.now)
+        (state S.Store tx.new.conn.now)
+        (DropsAll 12 (state S.Store tx.old.conn.now) (state S.Store tx.new.conn.now)) }
+{
+    run(tx, "DELETE FROM target", &[])
+}
+
+/// All lines leave, where nothing refers to them any more.
+pub fn drop_lines<S: Alter>(tx: &mut Transaction<'_, S>) -> Result<usize, Error>
+    ensures same_reference { tx.new.conn.ghost_name ≡ tx.old.conn.ghost_name }
+    ensures step { StatementStep result (state S.Store tx.old.conn.now)
+        (state S.Store tx.new.conn.now)
+        (DropsAll 11 (state S.Store tx.old.conn.now) (state S.Store tx.new.conn.now)) }
+{
+    run(tx, "DELETE FROM journal", &[])
 }

@@ -17,5 +17,6 @@ pub use adding::{
 pub use cells::{moment_cell, syntax_cell};
 pub use changing::{set_body, set_plan, set_row, set_whole};
 pub use dropping::{
-    drop_arrivals, drop_arrivals_of, drop_item, drop_over, drop_print, drop_rows_of,
+    drop_arrivals, drop_arrivals_of, drop_item, drop_lines, drop_over, drop_print, drop_rows_of,
+    drop_targets,
 };

@@ -18,10 +18,11 @@ returns-clause-adopted g c part =
     let owner = c.args.owner.now in
     let next = c.args.next.now in
     let mark = c.in-Some.mark.now in
+    let seal = c.in-Some.seal.now in
     let same : owner.node ≡ next.name = c.is_same.ensures.0 c.if-not-is_same.false ∙ c.name.ensures in
     let behind = c.in-Some.ensures in
-    let had : IsPlanWith mark behind.0 owner.plan =
-    subst (IsPlanWith mark behind.0) c.as_bytes.ensures behind.1 in
+    let had : IsPlanWith mark seal behind.0 owner.plan =
+    subst (IsPlanWith mark seal behind.0) c.as_bytes.ensures behind.1 in
     adopted_where c.args.n part next c.adopt_with.result (state g.S.Store c.args.conn.now) (state g.S.Store c.adopt_with.new.conn)
     (IsSiteOf next.name owner.plan) (IsSiteOf owner.node owner.plan)
     (λ db is. subst (λ node. IsSiteOf node owner.plan db) same is)
