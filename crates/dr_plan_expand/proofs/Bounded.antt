@@ -211,9 +211,9 @@ module _ (l : Lookups) where
       (words_size (word_classes l.usual l.sets) row.classes) (1 + (callers_size l.groups row.from + words_size (word_nodes []) row.syntaxes))
       (words_within (YieldsClasses l.classes l.usual l.sets) (word_classes l.usual l.sets) (classes_within l.classes l.usual l.sets) row.classes y.classes y.each_class)
       (λ part.
-          let from = callers_within l.groups row.from y.from y.each_caller (omega arith) in
-          let syntaxes = syntaxes_within row.syntaxes y.syntaxes y.each_syntax (omega arith) in
-          omega arith) le in
+      let from = callers_within l.groups row.from y.from y.each_caller (omega arith) in
+      let syntaxes = syntaxes_within row.syntaxes y.syntaxes y.each_syntax (omega arith) in
+      omega arith) le in
       omega arith
 
   rules_within : (rule : ShortRule) (rules : List Rule) → YieldsRules l rule rules → rule_size l rule ≤ most → sum_by rule_words rules ≤ rule_size l rule
@@ -226,12 +226,12 @@ module _ (l : Lookups) where
       (any_size (word_nodes l.groups) rule.from * any_size (word_classes l.usual l.sets) rule.classes)
       (1 + (list_amount (length rule.except) + words_size (word_nodes l.groups) rule.to))
       (product (length y.froms) (length y.classes) (any_size (word_nodes l.groups) rule.from) (any_size (word_classes l.usual l.sets) rule.classes)
-          (patterns_within (YieldsNodes l.groups) (word_nodes l.groups) (nodes_within l.groups) rule.from y.froms y.each_caller)
-          (patterns_within (YieldsClasses l.classes l.usual l.sets) (word_classes l.usual l.sets) (classes_within l.classes l.usual l.sets) rule.classes y.classes y.each_class))
+      (patterns_within (YieldsNodes l.groups) (word_nodes l.groups) (nodes_within l.groups) rule.from y.froms y.each_caller)
+      (patterns_within (YieldsClasses l.classes l.usual l.sets) (word_classes l.usual l.sets) (classes_within l.classes l.usual l.sets) rule.classes y.classes y.each_class))
       (λ lists.
-          let except = listed_within (length rule.except) (omega arith) in
-          let to = words_within (YieldsNodes l.groups) (word_nodes l.groups) (nodes_within l.groups) rule.to y.to y.each_target (omega arith) in
-          omega arith) le in
+      let except = listed_within (length rule.except) (omega arith) in
+      let to = words_within (YieldsNodes l.groups) (word_nodes l.groups) (nodes_within l.groups) rule.to y.to y.each_target (omega arith) in
+      omega arith) le in
       omega arith
 
   lists_within : (flow : ShortFlow) (classes syntaxes : List Text) → Yields (YieldsClasses l.classes l.usual l.sets) flow.classes classes → Yields (YieldsSyntax l.syntaxes) flow.syntaxes syntaxes →
@@ -253,8 +253,8 @@ module _ (l : Lookups) where
       let less = product (length y.ats * length y.tos) (1 + (length y.classes + length y.syntaxes + values_count flow.modalities + values_count flow.stations))
       (words_size (word_nodes l.groups) flow.at * words_size (word_nodes l.groups) flow.to) (lists_size l flow)
       (product (length y.ats) (length y.tos) (words_size (word_nodes l.groups) flow.at) (words_size (word_nodes l.groups) flow.to)
-          (words_within (YieldsNodes l.groups) (word_nodes l.groups) (nodes_within l.groups) flow.at y.ats y.each_at)
-          (words_within (YieldsNodes l.groups) (word_nodes l.groups) (nodes_within l.groups) flow.to y.tos y.each_to))
+      (words_within (YieldsNodes l.groups) (word_nodes l.groups) (nodes_within l.groups) flow.at y.ats y.each_at)
+      (words_within (YieldsNodes l.groups) (word_nodes l.groups) (nodes_within l.groups) flow.to y.tos y.each_to))
       (lists_within flow y.classes y.syntaxes y.each_class y.each_syntax) le in
       omega arith
 

@@ -64,11 +64,20 @@ one_fault root a Memory p q m n = absurd (n refl)
 pub answered : EachTextHasAnAnswer
 answered root none sound =
     sound Field (λ e. cc) (inl (λ short says.
-        sound Limit (λ e. cc) (short, says, (λ within.
-            sound Unknown (λ e. cc) (short, says, within, (λ plan means.
+    sound Limit (λ e. cc) (
+      short,
+      says,
+      (λ within.
+          sound Unknown (λ e. cc) (
+            short,
+            says,
+            within,
+            (λ plan means.
                 let stands : StandsFor root (plan_text plan) = record { short = short; plan = plan; says = says; within = within; means = means; is = refl } in
                 sound Field (λ e. cc) (inr (plan_text plan, stands, (λ own. none (plan_text plan) (stands, own))))
-            ))))))
+                ),
+          )),
+    )))
 
 pub node_itself : NodeStandsForItself
 node_itself = inr (λ rest e. (let d : ◌≡◌ {A = ℕ} 67 64 = ap (λ (t : Text). get_or t 0 0) e in omega arith), refl)

@@ -63,28 +63,47 @@ class_of : (last : ℕ) → IsDigit last → IsClass (49 ∷ 46 ∷ last ∷ [])
 class_of last digit =
     let P : ℕ → Type 0 = λ byte. IsDigit byte ⊎ (byte ≡ 46) in
     record {
-  some = λ e. cc;
-  short = lit≤ tt;
-  digits = All-cons P 49 (46 ∷ last ∷ []) (inl (lit≤ tt, lit≤ tt)) (All-cons P 46 (last ∷ []) (inr refl) (All-cons P last [] (inl digit) (All-nil P)));
-}
+      some = λ e. cc;
+      short = lit≤ tt;
+      digits = All-cons P 49 (46 ∷ last ∷ []) (inl (lit≤ tt, lit≤ tt)) (All-cons P 46 (last ∷ []) (inr refl) (All-cons P last [] (inl digit) (All-nil P)));
+    }
 
 class : (tables : List (List Known)) (uid : Text) → IsClass uid → YieldsClass tables uid (uid ∷ [])
 class tables uid is = (uid, inl (is, refl), refl)
 
 set : (tables : List (List Known)) (usual : List (List OfSet)) → YieldsClasses tables usual (pictures ∷ []) (codes "@pictures") (codes "1.2" ∷ codes "1.3" ∷ [])
-set tables usual = inl (codes "pictures", refl, inl (codes "1.2" ∷ codes "1.3" ∷ [], (pictures, inl (refl, refl), refl),
-    (codes "1.2" ∷ [], codes "1.3" ∷ [], class tables (codes "1.2") (class_of 50 (lit≤ tt, lit≤ tt)),
-    one_list (YieldsClass tables) (codes "1.3") (codes "1.3" ∷ []) (class tables (codes "1.3") (class_of 51 (lit≤ tt, lit≤ tt))) refl, refl)))
+set tables usual = inl (
+  codes "pictures",
+  refl,
+  inl (
+    codes "1.2" ∷ codes "1.3" ∷ [],
+    (pictures, inl (refl, refl), refl),
+    (
+      codes "1.2" ∷ [],
+      codes "1.3" ∷ [],
+      class tables (codes "1.2") (class_of 50 (lit≤ tt, lit≤ tt)),
+      one_list (YieldsClass tables) (codes "1.3") (codes "1.3" ∷ []) (class tables (codes "1.3") (class_of 51 (lit≤ tt, lit≤ tt))) refl,
+      refl,
+    ),
+  ),
+)
 
 picturing : Yields (YieldsClasses class_tables usual_tables (pictures ∷ [])) (codes "@pictures" ∷ []) (codes "1.2" ∷ codes "1.3" ∷ [])
 picturing = one_list (YieldsClasses class_tables usual_tables (pictures ∷ [])) (codes "@pictures") (codes "1.2" ∷ codes "1.3" ∷ []) (set class_tables usual_tables) refl
 
 explicit : HasUid syntaxes_1 (codes "ExplicitVRLittleEndian") (codes "1.2.840.10008.1.2.1")
 unfolding syntaxes_1
-explicit = ((codes "ExplicitVRLittleEndian", codes "Explicit VR Little Endian", codes "1.2.840.10008.1.2.1"), inr ((λ called. elim called [
-  | inl keyword ↦ (let d : ◌≡◌ {A = ℕ} 73 69 = ap (λ (t : Text). get_or t 0 0) keyword in omega arith)
-  | inr name ↦ (let d : ◌≡◌ {A = ℕ} 73 69 = ap (λ (t : Text). get_or t 0 0) name in omega arith)
-]), inl (inl refl, refl)), refl)
+explicit = (
+  (codes "ExplicitVRLittleEndian", codes "Explicit VR Little Endian", codes "1.2.840.10008.1.2.1"),
+  inr (
+    (λ called. elim called [
+      | inl keyword ↦ (let d : ◌≡◌ {A = ℕ} 73 69 = ap (λ (t : Text). get_or t 0 0) keyword in omega arith)
+      | inr name ↦ (let d : ◌≡◌ {A = ℕ} 73 69 = ap (λ (t : Text). get_or t 0 0) name in omega arith)
+    ]),
+    inl (inl refl, refl),
+  ),
+  refl,
+)
 
 named : Names syntax_tables (codes "ExplicitVRLittleEndian") (codes "1.2.840.10008.1.2.1")
 named = (syntaxes_1, inl ((codes "1.2.840.10008.1.2.1", explicit), refl), explicit)

@@ -155,10 +155,16 @@ pub definitions : DefinitionsAreSaid
 definitions = record {
   only = ((0, lit< tt, refl), ((2, lit< tt, refl), ((1, lit< tt, refl), tt)));
   format = refl;
-  set = (member (codes "pictures") (array (item (string (codes "1.2")) (one_text (codes "1.3")))) no_members, refl,
-      (record { name = refl; words = ((item (string (codes "1.2")) (one_text (codes "1.3")), refl, (refl, (refl, tt))), λ e. cc) }, tt));
-  group = (member (codes "scanners") (array (item (string (codes "CT1")) (one_text (codes "CT2")))) no_members, refl,
-      (record { name = refl; words = ((item (string (codes "CT1")) (one_text (codes "CT2")), refl, (refl, (refl, tt))), λ e. cc) }, tt));
+  set = (
+    member (codes "pictures") (array (item (string (codes "1.2")) (one_text (codes "1.3")))) no_members,
+    refl,
+    (record { name = refl; words = ((item (string (codes "1.2")) (one_text (codes "1.3")), refl, (refl, (refl, tt))), λ e. cc) }, tt),
+  );
+  group = (
+    member (codes "scanners") (array (item (string (codes "CT1")) (one_text (codes "CT2")))) no_members,
+    refl,
+    (record { name = refl; words = ((item (string (codes "CT1")) (one_text (codes "CT2")), refl, (refl, (refl, tt))), λ e. cc) }, tt),
+  );
   node = refl;
   flow = refl;
 }

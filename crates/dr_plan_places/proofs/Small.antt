@@ -145,7 +145,14 @@ pub second_node : SecondNodeHasNoName
 second_node = (
   One,
   refl,
-  (no_members, refl, (λ other node same beside is.
-      let P : Option Data → Type 0 = λ value. Given SaysText value node.name in
-      subst P same is.0.name, refl)),
+  (
+    no_members,
+    refl,
+    (
+      λ other node same beside is.
+          let P : Option Data → Type 0 = λ value. Given SaysText value node.name in
+          subst P same is.0.name,
+      refl,
+    ),
+  ),
 )
