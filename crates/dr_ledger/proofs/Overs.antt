@@ -10,9 +10,9 @@ use Rattle.dr_ledger.specs.declared.item.Instance.{Instance}
 use Rattle.dr_ledger.specs.declared.item.Progress.{Progress}
 use Rattle.dr_ledger.specs.declared.item.Progress.TheVariants.{Waiting, Held, Done, Dropped}
 use Rattle.dr_ledger.specs.Books.{Book, Forgetting, after, is_queued}
-use Rattle.dr_ledger.specs.Laws.{ForgettingsHaveAnswers, ForgettingsTakeTheirUid, ForgottenIsNew, HasAnswer, NothingOwedIsForgotten}
+use Rattle.dr_ledger.specs.Laws.{ForgettingsHaveAnswers, ForgettingsTakeTheirUid, ForgottenIsNew, ForgottenIsNotOver, HasAnswer, NothingOwedIsForgotten, NothingUnknownIsOver}
 use Rattle.dr_ledger.specs.Pairs.{Pair}
-use Rattle.dr_ledger.specs.Replies.{Forgets}
+use Rattle.dr_ledger.specs.Replies.{Forgets, IsOver}
 use Rattle.dr_ledger.specs.Routings.{Routing}
 use Rattle.dr_ledger.proofs.Earliest.{among_keys}
 use Rattle.dr_ledger.proofs.Forgotten.{Apart, item_is, row_is, arrival_is, no_way}
@@ -100,6 +100,14 @@ forgettings_take_their_uid uid b = record {
 
 pub nothing_owed_is_forgotten : NothingOwedIsForgotten
 nothing_owed_is_forgotten uid b over = ((λ kept. no_way (set.contains b.kept uid) kept over.unkept), λ dest row h n. no_way (is_queued row) n (over.unqueued dest row h))
+
+pub nothing_unknown_is_over : NothingUnknownIsOver
+nothing_unknown_is_over uid b none over = (let e : None ≡ Some over.there.0 = sym none ∙ over.there.1 in cc)
+
+pub forgotten_is_not_over : ForgottenIsNotOver
+forgotten_is_not_over uid old new f over =
+    let P : Book → Type 0 = λ b. IsOver b uid in
+    nothing_unknown_is_over uid (after (Forgetting uid) old) (forgettings_take_their_uid uid old).gone (subst P f.1 over)
 
 pub forgotten_is_new : (routing : Routing) → ForgottenIsNew routing
 forgotten_is_new routing uid caller item old mid new New same f a = refl

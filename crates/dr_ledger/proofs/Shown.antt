@@ -1,11 +1,13 @@
 -- What reads show, and when a failure counts.
-use Rattle.std.proofs.Common.{◌≡◌, refl, sym, ap, subst, ◌∙◌, ◌⊎◌, inl, inr, ℕ, ◌<◌, ◌-◌, ◌^◌, List, [], ◌∷◌, All, Contains, Some, map as mapped, arith}
+use Rattle.std.proofs.Common.{◌≡◌, refl, sym, ap, subst, ◌∙◌, ◌⊎◌, inl, inr, ℕ, ◌<◌, ◌-◌, ◌^◌, true, false, List, [], ◌∷◌, All, Contains, Some, Result, Ok, Err, map as mapped, arith}
 use Rattle.std.specs.FinMap as map
 use Rattle.dr_base.specs.Texts.{Text}
 use Rattle.dr_plan_model.proofs.Gathered.{nothing_in_nil, Contains-cons_cases, Contains-here, Contains-there}
 use Rattle.dr_ledger.specs.declared.item.Instance.{Instance}
+use Rattle.dr_ledger.specs.declared.fault.LedgerFault.{LedgerFault}
 use Rattle.dr_ledger.specs.declared.fault.LedgerFault.TheVariants as fault
-use Rattle.dr_ledger.specs.Showing.{AddedIsUnarmed, FailuresAreCounted, FiguresRise, KeptAreMeasured, LinesAreShown, ListsAreOne, OthersLeaveArmed}
+use Rattle.dr_ledger.specs.Replies.{LastsAfter}
+use Rattle.dr_ledger.specs.Showing.{AddedIsUnarmed, EachCallKeepsPremises, FailuresAreCounted, FiguresRise, KeptAreMeasured, LinesAreShown, ListsAreOne, NoLineLeavesArmed, OthersLeaveArmed, PremisesLast, StoresSpend}
 use Rattle.dr_ledger.proofs.Growing.{inside}
 use Rattle.dr_ledger.proofs.PlanRouting.{one_list}
 
@@ -77,3 +79,52 @@ others_leave_armed fault.NotWaiting old new not_store h = h
 others_leave_armed fault.NotHeld old new not_store h = h
 others_leave_armed fault.NotOver old new not_store h = h
 others_leave_armed fault.Memory old new not_store h = h
+
+pub no_line_leaves_armed : NoLineLeavesArmed
+no_line_leaves_armed (Ok value) old new h = h.1 ∙ sym h.0
+no_line_leaves_armed (Err fault.Store) old new (inl same) = same
+no_line_leaves_armed (Err fault.Store) old new (inr would) = absurd would.0
+no_line_leaves_armed (Err fault.NoLine) old new h = h
+no_line_leaves_armed (Err fault.Conflict) old new h = h
+no_line_leaves_armed (Err fault.NotWaiting) old new h = h
+no_line_leaves_armed (Err fault.NotHeld) old new h = h
+no_line_leaves_armed (Err fault.NotOver) old new h = h
+no_line_leaves_armed (Err fault.Memory) old new h = h
+
+pub stores_spend : StoresSpend
+stores_spend = record { spends = inr (tt, refl, refl); leaves = λ told. inl refl; tells_none = none }
+  where
+    none : (true ≡ false) ⊎ (Unit {0} × (false ≡ true) × (true ≡ false)) → ⊥
+    none (inl e) = cc
+    none (inr h) = (let e : false ≡ true = h.1 in cc)
+
+-- the answer is a failed store, or want of memory
+abbrev IsFailed : Result ℕ LedgerFault → Type 0
+IsFailed r = (r ≡ Err fault.Store) ⊎ (r ≡ Err fault.Memory)
+
+neither : (r : Result ℕ LedgerFault) → (r ≡ Err fault.Store → ⊥) → (r ≡ Err fault.Memory → ⊥) → IsFailed r → ⊥
+neither r store memory (inl e) = store e
+neither r store memory (inr e) = memory e
+
+pub premises_last : PremisesLast
+premises_last (Ok value) = (λ no. absurd no, neither (Ok value) (λ e. cc) (λ e. cc))
+premises_last (Err fault.Store) = (λ no. inl refl, λ failed. tt)
+premises_last (Err fault.Memory) = (λ no. inr refl, λ failed. tt)
+premises_last (Err fault.NoLine) = (λ no. absurd no, neither (Err fault.NoLine) (λ e. cc) (λ e. cc))
+premises_last (Err fault.Conflict) = (λ no. absurd no, neither (Err fault.Conflict) (λ e. cc) (λ e. cc))
+premises_last (Err fault.NotWaiting) = (λ no. absurd no, neither (Err fault.NotWaiting) (λ e. cc) (λ e. cc))
+premises_last (Err fault.NotHeld) = (λ no. absurd no, neither (Err fault.NotHeld) (λ e. cc) (λ e. cc))
+premises_last (Err fault.NotOver) = (λ no. absurd no, neither (Err fault.NotOver) (λ e. cc) (λ e. cc))
+
+ended : (r : Result ℕ LedgerFault) → LastsAfter r (Unit {0} → Unit {0} → ⊥) → IsFailed r
+ended (Ok value) h = absurd (h tt tt)
+ended (Err fault.Store) h = inl refl
+ended (Err fault.Memory) h = inr refl
+ended (Err fault.NoLine) h = absurd (h tt tt)
+ended (Err fault.Conflict) h = absurd (h tt tt)
+ended (Err fault.NotWaiting) h = absurd (h tt tt)
+ended (Err fault.NotHeld) h = absurd (h tt tt)
+ended (Err fault.NotOver) h = absurd (h tt tt)
+
+pub each_call_keeps_premises : EachCallKeepsPremises
+each_call_keeps_premises r = record { ends = λ p. ended r p.lasts; trusted = λ p. p.trusted tt }

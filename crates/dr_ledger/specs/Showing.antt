@@ -1,7 +1,7 @@
 -- What the calls that read show, and when a failure counts: figures and laws that pin those
 -- definitions.
-use Rattle.std.specs.Prelude.{◌≡◌, ◌↔◌, ℕ, ◌<◌, ◌-◌, ◌^◌, true, List, [], ◌∷◌, Contains, codes}
-use Rattle.std.specs.Prelude.{Bool, false, Some, Ok, Err}
+use Rattle.std.specs.Prelude.{◌≡◌, ◌↔◌, ◌⊎◌, ℕ, ◌<◌, ◌-◌, ◌^◌, true, List, [], ◌∷◌, Contains, codes}
+use Rattle.std.specs.Prelude.{Bool, false, Some, Result, Ok, Err}
 use Rattle.std.specs.FinMap as map
 use Rattle.std.specs.FinSet as set
 use Rattle.std.specs.FinSet.{FinSet}
@@ -16,7 +16,8 @@ use Rattle.dr_ledger.specs.declared.item.Outcome.TheVariants.{Status}
 use Rattle.dr_ledger.specs.Books.{Book, Arrival, Repeat, Settling, Requeuing, Dropping, Forgetting}
 use Rattle.dr_ledger.specs.Books.{Adoption}
 use Rattle.dr_ledger.specs.Refusals.{Arms}
-use Rattle.dr_ledger.specs.Replies.{AreKept, Counts, HasRisen, Lists, entry_of}
+use Rattle.dr_ledger.specs.Replies.{AreKept, Counts, HasRisen, LastsAfter, Lists, PremiseLasts}
+use Rattle.dr_ledger.specs.Replies.{entry_of}
 
 -- the key of a CT image in the explicit syntax, of station S1
 abbrev pub a_key : Key
@@ -73,6 +74,36 @@ abbrev pub OthersLeaveArmed : Type 0
 OthersLeaveArmed =
     (why : LedgerFault) (old new : Bool)
     → (why ≡ fault.Store → ⊥) → Arms {A = ℕ} (Unit {0}) old (Err why) new → new ≡ old
+
+-- a call that wouldn't add a line leaves what is told, whatever it answers
+abbrev pub NoLineLeavesArmed : Type 0
+NoLineLeavesArmed =
+    (r : Result ℕ LedgerFault) (old new : Bool) → Arms ⊥ old r new → new ≡ old
+
+-- What is told after a failed store: a call that would have added a line may have spent it, and a
+-- store that failed by itself leaves it. Nothing is told by that.
+pub record StoresSpend : Type 0 where
+  pub spends : Arms {A = ℕ} (Unit {0}) true (Err fault.Store) false
+  pub leaves : (told : Bool) → Arms {A = ℕ} ⊥ told (Err fault.Store) told
+  pub tells_none : Arms {A = ℕ} (Unit {0}) false (Err fault.Store) true → ⊥
+
+-- a premise may end only where a store failed or memory ran out: even one that can't stand lasts
+-- just there
+abbrev pub PremisesLast : Type 0
+PremisesLast =
+    (r : Result ℕ LedgerFault)
+    → LastsAfter r ⊥ ↔ ((r ≡ Err fault.Store) ⊎ (r ≡ Err fault.Memory))
+
+-- No call ends a premise that stood, of what is trusted, by itself; and none makes trusted what
+-- wasn't.
+pub record CallsKeepPremises (r : Result ℕ LedgerFault) : Type 0 where
+  pub ends : PremiseLasts r (Unit {0}) (Unit {0}) (Unit {0}) ⊥
+      → (r ≡ Err fault.Store) ⊎ (r ≡ Err fault.Memory)
+  pub trusted : PremiseLasts r ⊥ (Unit {0}) (Unit {0}) (Unit {0}) → ⊥
+
+-- a call keeps premises, whatever it answers
+abbrev pub EachCallKeepsPremises : Type 0
+EachCallKeepsPremises = (r : Result ℕ LedgerFault) → CallsKeepPremises r
 
 -- Where the store is the fault, the count of failures has risen, if it wasn't at its greatest
 -- value.
