@@ -92,8 +92,8 @@ module _ {S T : Type 0} (step : S → DeskCall → DeskAnswer → S → Type 0) 
       (first.0, inr (inr (h.0, shows h.1, first.1, later.1)))
 
   breaks_bytes : (at : Moment) (ear : Feeding) (c : Core) (piece : List ℕ) (s t : S) → BreaksBytes step at ear c piece s t → Holds t → BreaksBytes shown at ear c piece (shows s) (shows t)
-  breaks_bytes at ear c piece s t (inl h) k = inl (ap shows h)
-  breaks_bytes at ear c piece s t (inr h) k = inr (h.0, h.1, h.2, h.3, h.4, (breaks [] c _ s t h.5 k).1)
+  breaks_bytes at ear c piece s t (works, inl h) k = (works, inl (ap shows h))
+  breaks_bytes at ear c piece s t (works, inr h) k = (works, inr (h.0, h.1, h.2, h.3, h.4, (breaks [] c _ s t h.5 k).1))
 
   meets_by : (b : Bool) (at : Moment) (i : Input) (c : Core) (old : Terminal) (s t : S) (result : Acts) (new : Terminal) → MeetsBy step b at i c old s result new t → Holds t →
       MeetsBy shown b at i c old (shows s) result new (shows t)

@@ -79,8 +79,8 @@ module _ {S : Type 0} (step : S → DeskCall → DeskAnswer → S → Type 0) (R
   plays_bytes at ear c piece s t new x h = plays c _ s t x.acts x.core h.2
 
   breaks_bytes : (at : Moment) (ear : Feeding) (c : Core) (piece : List ℕ) (s t : S) → BreaksBytes step at ear c piece s t → R s t
-  breaks_bytes at ear c piece s t (inl h) = as_it_was s t h
-  breaks_bytes at ear c piece s t (inr h) = breaks [] c _ s t h.5
+  breaks_bytes at ear c piece s t (works, inl h) = as_it_was s t h
+  breaks_bytes at ear c piece s t (works, inr h) = breaks [] c _ s t h.5
 
   meets_by : (b : Bool) (at : Moment) (i : Input) (c : Core) (old : Terminal) (s t : S) (result : Acts) (new : Terminal) → MeetsBy step b at i c old s result new t → R s t
   meets_by true at i c old s t result new h = as_it_was s t h.2
