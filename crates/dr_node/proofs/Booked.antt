@@ -92,8 +92,8 @@ module _ {S T : Type 0} (step : S → DeskCall → DeskAnswer → S → Type 0) 
       (first.0, inr (inr (h.0, shows h.1, first.1, later.1)))
 
   breaks_bytes : (at : Moment) (ear : Feeding) (c : Core) (piece : List ℕ) (s t : S) → BreaksBytes step at ear c piece s t → Holds t → BreaksBytes shown at ear c piece (shows s) (shows t)
-  breaks_bytes at ear c piece s t (inl h) k = inl (ap shows h)
-  breaks_bytes at ear c piece s t (inr h) k = inr (h.0, h.1, h.2, h.3, h.4, (breaks [] c _ s t h.5 k).1)
+  breaks_bytes at ear c piece s t (works, inl h) k = (works, inl (ap shows h))
+  breaks_bytes at ear c piece s t (works, inr h) k = (works, inr (h.0, h.1, h.2, h.3, h.4, (breaks [] c _ s t h.5 k).1))
 
   meets_by : (b : Bool) (at : Moment) (i : Input) (c : Core) (old : Terminal) (s t : S) (result : Acts) (new : Terminal) → MeetsBy step b at i c old s result new t → Holds t →
       MeetsBy shown b at i c old (shows s) result new (shows t)
@@ -155,25 +155,25 @@ module _ {S T : Type 0} (step : S → DeskCall → DeskAnswer → S → Type 0) 
 
 -- ---- a ledger and its book
 
-module _ {L : Type 0} (site : L → Part) (book : L → Book) (bodies : L → Bodies) (armed : L → Bool) (trusts stands : L → Type 0) (part : Part) where
+module _ {L : Type 0} (site : L → Part) (book : L → Book) (bodies : L → Bodies) (armed : L → Bool) (trusts stands : L → Type 0) (failed : L → ℕ) (part : Part) where
   abbrev OfPart : LedgerDesk L → Type 0
   OfPart d = stands d.ledger × (site d.ledger ≡ part)
 
-  back : (s : LedgerDesk L) (call : DeskCall) (answer : DeskAnswer) (t : LedgerDesk L) → LedgerStep site book bodies armed trusts stands s call answer t → OfPart t → OfPart s
+  back : (s : LedgerDesk L) (call : DeskCall) (answer : DeskAnswer) (t : LedgerDesk L) → LedgerStep site book bodies armed trusts stands failed s call answer t → OfPart t → OfPart s
   back s call answer t h k = (h.0 k.0, sym h.1 ∙ k.1)
 
-  one : (s : LedgerDesk L) (call : DeskCall) (answer : DeskAnswer) (t : LedgerDesk L) → LedgerStep site book bodies armed trusts stands s call answer t → OfPart t →
+  one : (s : LedgerDesk L) (call : DeskCall) (answer : DeskAnswer) (t : LedgerDesk L) → LedgerStep site book bodies armed trusts stands failed s call answer t → OfPart t →
       RoutedStep (site_routing part) (desk_of book armed s) call answer (desk_of book armed t)
   one s call answer t h k =
       let P : Part → Type 0 = λ p. RoutedStep (site_routing p) (desk_of book armed s) call answer (desk_of book armed t) in
       subst P (sym h.1 ∙ k.1) (h.2 k.0)
 
   pub input_booked : (what : LinkEvent) (now link : ℕ) (old new : Sides) (s t : LedgerDesk L) (result : Result (List LinkAction) NodeFault) →
-      Does (MeetsEvent (LedgerStep site book bodies armed trusts stands) what) now link old s result new t → stands t.ledger × (site t.ledger ≡ part) →
+      Does (MeetsEvent (LedgerStep site book bodies armed trusts stands failed) what) now link old s result new t → stands t.ledger × (site t.ledger ≡ part) →
       Does (MeetsEvent (RoutedStep (site_routing part)) what) now link old (desk_of book armed s) result new (desk_of book armed t)
-  input_booked = inputs_show (LedgerStep site book bodies armed trusts stands) (RoutedStep (site_routing part)) (desk_of book armed) (λ d. stands d.ledger × (site d.ledger ≡ part)) back one
+  input_booked = inputs_show (LedgerStep site book bodies armed trusts stands failed) (RoutedStep (site_routing part)) (desk_of book armed) (λ d. stands d.ledger × (site d.ledger ≡ part)) back one
 
   pub push_booked : (now link : ℕ) (old new : Sides) (s t : LedgerDesk L) (result : Result (List LinkAction) NodeFault) →
-      Does (Pushes (LedgerStep site book bodies armed trusts stands)) now link old s result new t → stands t.ledger × (site t.ledger ≡ part) →
+      Does (Pushes (LedgerStep site book bodies armed trusts stands failed)) now link old s result new t → stands t.ledger × (site t.ledger ≡ part) →
       Does (Pushes (RoutedStep (site_routing part))) now link old (desk_of book armed s) result new (desk_of book armed t)
-  push_booked = pushes_show (LedgerStep site book bodies armed trusts stands) (RoutedStep (site_routing part)) (desk_of book armed) (λ d. stands d.ledger × (site d.ledger ≡ part)) back one
+  push_booked = pushes_show (LedgerStep site book bodies armed trusts stands failed) (RoutedStep (site_routing part)) (desk_of book armed) (λ d. stands d.ledger × (site d.ledger ≡ part)) back one

@@ -79,8 +79,8 @@ module _ {S : Type 0} (step : S → DeskCall → DeskAnswer → S → Type 0) (R
   plays_bytes at ear c piece s t new x h = plays c _ s t x.acts x.core h.2
 
   breaks_bytes : (at : Moment) (ear : Feeding) (c : Core) (piece : List ℕ) (s t : S) → BreaksBytes step at ear c piece s t → R s t
-  breaks_bytes at ear c piece s t (inl h) = as_it_was s t h
-  breaks_bytes at ear c piece s t (inr h) = breaks [] c _ s t h.5
+  breaks_bytes at ear c piece s t (works, inl h) = as_it_was s t h
+  breaks_bytes at ear c piece s t (works, inr h) = breaks [] c _ s t h.5
 
   meets_by : (b : Bool) (at : Moment) (i : Input) (c : Core) (old : Terminal) (s t : S) (result : Acts) (new : Terminal) → MeetsBy step b at i c old s result new t → R s t
   meets_by true at i c old s t result new h = as_it_was s t h.2
@@ -134,19 +134,19 @@ module _ {S : Type 0} (step : S → DeskCall → DeskAnswer → S → Type 0) (R
 
 -- ---- a ledger stays of its site, and its premise goes back to the start
 
-module _ {L : Type 0} (site : L → Part) (book : L → Book) (bodies : L → Bodies) (armed : L → Bool) (trusts stands : L → Type 0) where
+module _ {L : Type 0} (site : L → Part) (book : L → Book) (bodies : L → Bodies) (armed : L → Bool) (trusts stands : L → Type 0) (failed : L → ℕ) where
   pub input_stays : (what : LinkEvent) (now link : ℕ) (old new : Sides) (s t : LedgerDesk L) (result : Result (List LinkAction) NodeFault) →
-      Does (MeetsEvent (LedgerStep site book bodies armed trusts stands) what) now link old s result new t → site t.ledger ≡ site s.ledger
-  input_stays = inputs_keep (LedgerStep site book bodies armed trusts stands) (λ s t. site t.ledger ≡ site s.ledger) (λ s. refl) (λ s m t a b. b ∙ a) (λ s call answer t h. h.1)
+      Does (MeetsEvent (LedgerStep site book bodies armed trusts stands failed) what) now link old s result new t → site t.ledger ≡ site s.ledger
+  input_stays = inputs_keep (LedgerStep site book bodies armed trusts stands failed) (λ s t. site t.ledger ≡ site s.ledger) (λ s. refl) (λ s m t a b. b ∙ a) (λ s call answer t h. h.1)
 
   pub push_stays : (now link : ℕ) (old new : Sides) (s t : LedgerDesk L) (result : Result (List LinkAction) NodeFault) →
-      Does (Pushes (LedgerStep site book bodies armed trusts stands)) now link old s result new t → site t.ledger ≡ site s.ledger
-  push_stays = pushes_keep (LedgerStep site book bodies armed trusts stands) (λ s t. site t.ledger ≡ site s.ledger) (λ s. refl) (λ s m t a b. b ∙ a) (λ s call answer t h. h.1)
+      Does (Pushes (LedgerStep site book bodies armed trusts stands failed)) now link old s result new t → site t.ledger ≡ site s.ledger
+  push_stays = pushes_keep (LedgerStep site book bodies armed trusts stands failed) (λ s t. site t.ledger ≡ site s.ledger) (λ s. refl) (λ s m t a b. b ∙ a) (λ s call answer t h. h.1)
 
   pub input_stood : (what : LinkEvent) (now link : ℕ) (old new : Sides) (s t : LedgerDesk L) (result : Result (List LinkAction) NodeFault) →
-      Does (MeetsEvent (LedgerStep site book bodies armed trusts stands) what) now link old s result new t → stands t.ledger → stands s.ledger
-  input_stood = inputs_keep (LedgerStep site book bodies armed trusts stands) (λ s t. stands t.ledger → stands s.ledger) (λ s h. h) (λ s m t a b h. a (b h)) (λ s call answer t h. h.0)
+      Does (MeetsEvent (LedgerStep site book bodies armed trusts stands failed) what) now link old s result new t → stands t.ledger → stands s.ledger
+  input_stood = inputs_keep (LedgerStep site book bodies armed trusts stands failed) (λ s t. stands t.ledger → stands s.ledger) (λ s h. h) (λ s m t a b h. a (b h)) (λ s call answer t h. h.0)
 
   pub push_stood : (now link : ℕ) (old new : Sides) (s t : LedgerDesk L) (result : Result (List LinkAction) NodeFault) →
-      Does (Pushes (LedgerStep site book bodies armed trusts stands)) now link old s result new t → stands t.ledger → stands s.ledger
-  push_stood = pushes_keep (LedgerStep site book bodies armed trusts stands) (λ s t. stands t.ledger → stands s.ledger) (λ s h. h) (λ s m t a b h. a (b h)) (λ s call answer t h. h.0)
+      Does (Pushes (LedgerStep site book bodies armed trusts stands failed)) now link old s result new t → stands t.ledger → stands s.ledger
+  push_stood = pushes_keep (LedgerStep site book bodies armed trusts stands failed) (λ s t. stands t.ledger → stands s.ledger) (λ s h. h) (λ s m t a b h. a (b h)) (λ s call answer t h. h.0)

@@ -11,19 +11,23 @@ use Rattle.dr_ledger.specs.Replies.{Counts, Dues, IsWaiting, PremiseLasts, Reads
 use Rattle.dr_ledger.specs.SiteRoutes.{site_routing}
 use Rattle.dr_session.specs.declared.desk.LedgerDesk.{LedgerDesk}
 use Rattle.dr_session.specs.Desks.{DeskCall, DeskAnswer}
-use Rattle.dr_session.specs.Ledgers.{BodiesStep, Desk, LastsBy, RoutedStep, desk}
+use Rattle.dr_session.specs.Ledgers.{BodiesStep, CountsBy, Desk, LastsBy, RoutedStep}
+use Rattle.dr_session.specs.Ledgers.{TellsBodies, desk}
 
 -- What a call of a session does at a ledger of which contracts see this: it goes by the site's
 -- routes, under the ledger's premise as the call ends, and the ledger stays of its site.
 abbrev pub LedgerStep : {L : Type 0} → (L → Part) → (L → Book) → (L → Bodies) → (L → Bool)
-    → (L → Type 0) → (L → Type 0) → LedgerDesk L → DeskCall → DeskAnswer → LedgerDesk L → Type 0
-LedgerStep site book bodies armed trusts stands old call answer new =
+    → (L → Type 0) → (L → Type 0) → (L → ℕ) → LedgerDesk L → DeskCall → DeskAnswer → LedgerDesk L
+    → Type 0
+LedgerStep site book bodies armed trusts stands failed old call answer new =
     (stands new.ledger → stands old.ledger)
     × (site new.ledger ≡ site old.ledger)
     × (stands new.ledger
     → RoutedStep (site_routing (site old.ledger)) (desk (book old.ledger) (armed old.ledger)) call
     answer (desk (book new.ledger) (armed new.ledger)))
     × (stands new.ledger → BodiesStep (bodies old.ledger) call (bodies new.ledger))
+    × (stands new.ledger → TellsBodies (book old.ledger) (bodies old.ledger) call answer)
+    × CountsBy answer (failed old.ledger) (failed new.ledger)
     × LastsBy answer (trusts old.ledger) (trusts new.ledger) (stands old.ledger) (stands new.ledger)
 
 -- ---- staying away

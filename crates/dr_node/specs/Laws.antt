@@ -92,33 +92,34 @@ desk_of book armed d = desk (book d.ledger) (armed d.ledger)
 
 -- A ledger stays of its site, and its premise goes back from the end of a call to its start.
 abbrev pub StaysOfItsSite : {L : Type 0} → (L → Part) → (L → Book) → (L → Bodies) → (L → Bool)
-    → (L → Type 0) → (L → Type 0) → Type 0
-StaysOfItsSite {L} site book bodies armed trusts stands =
+    → (L → Type 0) → (L → Type 0) → (L → ℕ) → Type 0
+StaysOfItsSite {L} site book bodies armed trusts stands failed =
     (what : LinkEvent) (now link : ℕ) (old new : Sides) (s t : LedgerDesk L)
     (result : Result (List LinkAction) NodeFault)
-    → Does (MeetsEvent (LedgerStep site book bodies armed trusts stands) what) now link old s result
-    new t
+    → Does (MeetsEvent (LedgerStep site book bodies armed trusts stands failed) what) now link old s
+    result new t
     → (site t.ledger ≡ site s.ledger) × (stands t.ledger → stands s.ledger)
 
 -- Where its premise stands at the end, what is done at a ledger is done at its book, by the routes
 -- of its site.
 abbrev pub IsDoneAtBooks : {L : Type 0} → (L → Part) → (L → Book) → (L → Bodies) → (L → Bool)
-    → (L → Type 0) → (L → Type 0) → Type 0
-IsDoneAtBooks {L} site book bodies armed trusts stands =
+    → (L → Type 0) → (L → Type 0) → (L → ℕ) → Type 0
+IsDoneAtBooks {L} site book bodies armed trusts stands failed =
     (what : LinkEvent) (now link : ℕ) (old new : Sides) (s t : LedgerDesk L)
     (result : Result (List LinkAction) NodeFault)
-    → Does (MeetsEvent (LedgerStep site book bodies armed trusts stands) what) now link old s result
-    new t
+    → Does (MeetsEvent (LedgerStep site book bodies armed trusts stands failed) what) now link old s
+    result new t
     → stands t.ledger
     → Does (MeetsEvent (RoutedStep (site_routing (site s.ledger))) what) now link old
     (desk_of book armed s) result new (desk_of book armed t)
 
 abbrev pub PushIsDoneAtBooks : {L : Type 0} → (L → Part) → (L → Book) → (L → Bodies) → (L → Bool)
-    → (L → Type 0) → (L → Type 0) → Type 0
-PushIsDoneAtBooks {L} site book bodies armed trusts stands =
+    → (L → Type 0) → (L → Type 0) → (L → ℕ) → Type 0
+PushIsDoneAtBooks {L} site book bodies armed trusts stands failed =
     (now link : ℕ) (old new : Sides) (s t : LedgerDesk L)
     (result : Result (List LinkAction) NodeFault)
-    → Does (Pushes (LedgerStep site book bodies armed trusts stands)) now link old s result new t
+    → Does (Pushes (LedgerStep site book bodies armed trusts stands failed)) now link old s result
+    new t
     → stands t.ledger
     → Does (Pushes (RoutedStep (site_routing (site s.ledger)))) now link old (desk_of book armed s)
     result new (desk_of book armed t)

@@ -34,11 +34,11 @@ pub fn counts_others()
 
 /// A node's ledger stays of its site, and where its premise stands as a call ends it stood before.
 pub fn stays_of_its_site<L: Ledger>()
-    ensures { StaysOfItsSite L.site L.book L.bodies L.armed L.trusts L.stands }
+    ensures { StaysOfItsSite L.site L.book L.bodies L.armed L.trusts L.stands L.failed }
 {}
 
 /// What a node does at its ledger is done at the ledger's book, by the routes of its site.
 pub fn does_at_books<L: Ledger>()
-    ensures input { IsDoneAtBooks L.site L.book L.bodies L.armed L.trusts L.stands }
-    ensures push { PushIsDoneAtBooks L.site L.book L.bodies L.armed L.trusts L.stands }
+    ensures input { IsDoneAtBooks L.site L.book L.bodies L.armed L.trusts L.stands L.failed }
+    ensures push { PushIsDoneAtBooks L.site L.book L.bodies L.armed L.trusts L.stands L.failed }
 {}

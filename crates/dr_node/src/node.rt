@@ -90,8 +90,8 @@ impl<L: Ledger> Node<L> {
     ) -> Result<Seq<LinkAction>, NodeFault>
         requires { now ≤ 2 ^ 62 }
         ensures does { Does
-            (MeetsEvent (LedgerStep L.site L.book L.bodies L.armed L.trusts L.stands) event) now
-            link self.old.links self.old.desk result self.new.links self.new.desk }
+            (MeetsEvent (LedgerStep L.site L.book L.bodies L.armed L.trusts L.stands L.failed)
+            event) now link self.old.links self.old.desk result self.new.links self.new.desk }
         ensures site { self.new.site ≡ self.old.site }
     {
         self.links.input(link, event, &mut self.desk, now)
@@ -104,8 +104,9 @@ impl<L: Ledger> Node<L> {
     /// Errors: LinkUnknown, Memory.
     pub fn push(&mut self, link: u64, now: u64) -> Result<Seq<LinkAction>, NodeFault>
         requires { now ≤ 2 ^ 62 }
-        ensures does { Does (Pushes (LedgerStep L.site L.book L.bodies L.armed L.trusts L.stands))
-            now link self.old.links self.old.desk result self.new.links self.new.desk }
+        ensures does { Does
+            (Pushes (LedgerStep L.site L.book L.bodies L.armed L.trusts L.stands L.failed)) now
+            link self.old.links self.old.desk result self.new.links self.new.desk }
         ensures site { self.new.site ≡ self.old.site }
     {
         self.links.push(link, &mut self.desk, now)

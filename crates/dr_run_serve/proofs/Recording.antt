@@ -106,8 +106,8 @@ module _ {S T : Type 0} (step : S → DeskCall → DeskAnswer → S → Type 0) 
       (later.0, inr (inr (h.0, first.0, first.1, later.1)), later.2)
 
   breaks_bytes : (at : Moment) (ear : Feeding) (c : Core) (piece : List ℕ) (s t : S) (a : T) → BreaksBytes step at ear c piece s t → Follows s a → (b : T) × BreaksBytes shown at ear c piece a b × Follows t b
-  breaks_bytes at ear c piece s t a (inl h) k = (a, inl refl, still s t a h k)
-  breaks_bytes at ear c piece s t a (inr h) k = let r = breaks [] c _ s t a h.5 k in (r.0, inr (h.0, h.1, h.2, h.3, h.4, r.1), r.2)
+  breaks_bytes at ear c piece s t a (works, inl h) k = (a, (works, inl refl), still s t a h k)
+  breaks_bytes at ear c piece s t a (works, inr h) k = let r = breaks [] c _ s t a h.5 k in (r.0, (works, inr (h.0, h.1, h.2, h.3, h.4, r.1)), r.2)
 
   meets_by : (b : Bool) (at : Moment) (i : Input) (c : Core) (old : Terminal) (s t : S) (result : Result (List LinkAction) AllocError) (new : Terminal) (a : T) → MeetsBy step b at i c old s result new t → Follows s a →
       (z : T) × MeetsBy shown b at i c old a result new z × Follows t z

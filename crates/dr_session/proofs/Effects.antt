@@ -1,11 +1,17 @@
 -- Effects that are put together from their parts.
-use Rattle.std.proofs.Common.{◌≡◌, ℕ, List, [], ◌∷◌, Option, Some, None, Result, Ok, Err, sym, ap, ◌∙◌}
+use Rattle.std.proofs.Common.{◌≡◌, ℕ, List, [], ◌∷◌, Option, Some, None, Result, Ok, Err, sym, ap, subst, ◌∙◌}
 use Rattle.std.specs.Prelude.{IfOk}
 use Rattle.std.specs.declared.alloc.AllocError.{AllocError}
 use Rattle.std.proofs.lemmas.Option.{same_Some}
+use Rattle.dr_base.specs.Standard.{verification}
+use Rattle.dr_base.specs.Syntaxes.{syntax_uid}
 use Rattle.dr_base.specs.Texts.{Text}
+use Rattle.dr_base.specs.declared.syntax.Syntax.TheVariants.{Implicit}
 use Rattle.dr_ledger.specs.declared.content.Job.{Job}
+use Rattle.dr_nego.specs.Agreeing.{context_for}
 use Rattle.dr_nego.specs.declared.agreed.Agreed.{Agreed}
+use Rattle.dr_session.specs.Breaks.{HasActs}
+use Rattle.dr_session.specs.Ends.{echoes_by, echoes_in}
 use Rattle.dr_session.specs.declared.ends.Core.{Core}
 use Rattle.dr_session.specs.declared.ends.Effect.{Effect}
 use Rattle.dr_session.specs.declared.ends.LinkAction.{LinkAction}
@@ -33,6 +39,16 @@ acted_so (Err f) said act x y h is core = tt
 -- what was made before is done, by an end that goes on so
 pub acted_ready : (acts want : List LinkAction) (x y : Core) → acts ≡ want → x ≡ y → effect acts x ≡ effect want y
 acted_ready acts want x y is core = ap (λ (l : List LinkAction). effect l x) is ∙ ap (λ (c : Core). effect want c) core
+
+-- ---- an echo
+
+-- an echo for which there is a context writes something
+pub wants_some : (o : Option Agreed) (agreed : Agreed) (context now : ℕ) (c : Core) → o ≡ Some agreed → context_for agreed verification (syntax_uid Implicit) ≡ Some context
+    → HasActs (echoes_by o now c).acts
+wants_some o agreed context now c is some =
+    let P : Option Agreed → Type 0 = λ g. HasActs (echoes_by g now c).acts in
+    let Q : Option ℕ → Type 0 = λ x. HasActs (echoes_in x agreed now c).acts in
+    subst P (sym is) (subst Q (sym some) tt)
 
 -- ---- an instance that goes over
 

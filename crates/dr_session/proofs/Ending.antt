@@ -10,6 +10,7 @@ use Rattle.dr_nego.specs.Proposing.{Proposes}
 use Rattle.std.proofs.lemmas.Bool.{false≢true}
 use Rattle.dr_pdu.specs.Feeding.{Feeding, fresh}
 use Rattle.dr_session.specs.declared.ends.Effect.{Effect}
+use Rattle.dr_session.specs.Breaks.{HasActs}
 use Rattle.dr_session.specs.Plays.{Reacts, Stops, PlaysBytes, BreaksBytes, at_moment, without_data}
 use Rattle.std.specs.declared.alloc.AllocError.{AllocError}
 use Rattle.dr_ulstate.specs.Phases.{state_of}
@@ -140,9 +141,9 @@ echoes_done now c old mid new x (is, free, taken) put e =
     echoes_live now c old new (Ok x.acts) is free
     (ap (λ (y : Effect). y.acts) e, put ∙ (ap (λ (y : Terminal). terminal y.ear (Some x.core)) taken ∙ ap (λ (y : Effect). terminal old.ear (Some y.core)) e))
 
-pub echoes_broke : (now : ℕ) (c : Core) (old mid : Terminal) (r : Result (List LinkAction) AllocError) → TakesFree old (Some c) mid → IsErr r → EchoesIn old.core now old r mid
-echoes_broke now c old mid (Ok acts) taken no_err = absurd (false≢true no_err)
-echoes_broke now c old mid (Err e) (is, free, taken) err = echoes_live now c old mid (Err e) is free taken
+pub echoes_broke : (now : ℕ) (c : Core) (old mid : Terminal) (r : Result (List LinkAction) AllocError) → TakesFree old (Some c) mid → IsErr r → HasActs (echoes_by c.agreed now c).acts → EchoesIn old.core now old r mid
+echoes_broke now c old mid (Ok acts) taken no_err wants = absurd (false≢true no_err)
+echoes_broke now c old mid (Err e) (is, free, taken) err wants = echoes_live now c old mid (Err e) is free (wants, taken)
 
 pub takes_free : (old : Terminal) (ear : Feeding) (core r after : Option Core) → r ≡ core → after ≡ None → terminal ear core ≡ old → is_free_in old.core ≡ true → TakesFree old r (terminal ear after)
 takes_free old ear core None after same none view free =

@@ -97,9 +97,9 @@ module _ {S : Type 0} (step : S → DeskCall → DeskAnswer → S → Type 0) (a
       → Plays step c (at_moment at (input_of fault) ∷ []) s x.acts x.core t → PlaysBytes step at old c piece s new x t
   plays_fault old piece fault c s t new x h plays = (input_of fault ∷ [], h, plays)
 
-  pub breaks_fault : (old : Feeding) (piece : List ℕ) (fault : PduFault) (c : Core) (s t : S) → IsFault fault → Shows old.limit (old.kept ++ piece) fault
+  pub breaks_fault : (old : Feeding) (piece : List ℕ) (fault : PduFault) (c : Core) (s t : S) → old.failed ≡ false → IsFault fault → Shows old.limit (old.kept ++ piece) fault
       → BreaksOff step [] c (at_moment at (input_of fault) ∷ []) s t → BreaksBytes step at old c piece s t
-  breaks_fault old piece fault c s t is shows broke = inr ([], old.kept ++ piece, input_of fault ∷ [], refl, inr (fault, is, shows, refl), broke)
+  breaks_fault old piece fault c s t works is shows broke = (works, inr ([], old.kept ++ piece, input_of fault ∷ [], refl, inr (fault, is, shows, refl), broke))
 
   pub plays_pdus : (old : Feeding) (piece : List ℕ) (pdus : List Pdu) (c : Core) (s t : S) (mid new : Feeding) (x : Effect) → Feeds old piece (Ok pdus) mid
       → PlaysOn step at mid pdus c s new x t → PlaysBytes step at old c piece s new x t
@@ -108,9 +108,9 @@ module _ {S : Type 0} (step : S → DeskCall → DeskAnswer → S → Type 0) (a
 
   pub breaks_pdus : (old : Feeding) (piece : List ℕ) (pdus : List Pdu) (c : Core) (s t : S) (mid : Feeding) → Feeds old piece (Ok pdus) mid
       → BreaksOn step at mid pdus c s t → BreaksBytes step at old c piece s t
-  breaks_pdus old piece pdus c s t mid feeds (inl same) = inl same
+  breaks_pdus old piece pdus c s t mid feeds (inl same) = (feeds.0, inl same)
   breaks_pdus old piece pdus c s t mid (works, units, more, still, limit) (inr (last, is, broke)) =
-      inr (pdus, mid.kept, last, units.0, subst (λ (k : ℕ). IsLast k mid.kept last) limit is, broke)
+      (works, inr (pdus, mid.kept, last, units.0, subst (λ (k : ℕ). IsLast k mid.kept last) limit is, broke))
 
   -- ---- behind the PDUs
 
@@ -199,6 +199,9 @@ failed_never old piece fault new works e f = let h : Feeds old piece (Err Failed
 
 pub failed_before : (old : Feeding) (piece : List ℕ) (fault : PduFault) (new : Feeding) → fault ≡ Failed → Feeds old piece (Err fault) new → (old.failed ≡ true) × (new ≡ old)
 failed_before old piece fault new e f = subst (λ (x : PduFault). Feeds old piece (Err x) new) e f
+
+pub memory_before : (old : Feeding) (piece : List ℕ) (fault : PduFault) (new : Feeding) → fault ≡ Memory → Feeds old piece (Err fault) new → (old.failed ≡ false) × (new ≡ old)
+memory_before old piece fault new e f = subst (λ (x : PduFault). Feeds old piece (Err x) new) e f
 
 pub fault_fits : (input : Input) (fault : PduFault) → input ≡ input_of fault → InputFits input
 fault_fits input fault e = subst InputFits (sym e) (by_fault fault)

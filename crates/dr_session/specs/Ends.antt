@@ -41,6 +41,7 @@ use Rattle.dr_session.specs.declared.ends.Moment.{Moment}
 use Rattle.dr_session.specs.declared.ends.Over.{Over}
 use Rattle.dr_session.specs.declared.ends.Over.TheVariants as over
 use Rattle.dr_session.specs.declared.ends.Pending.{Pending}
+use Rattle.dr_session.specs.Breaks.{HasActs}
 use Rattle.dr_session.specs.Desks.{DeskCall, DeskAnswer}
 use Rattle.dr_session.specs.Plays.{At, Reacts, Stops, PlaysBytes, BreaksBytes, at_moment}
 use Rattle.dr_session.specs.Plays.{without_data}
@@ -254,7 +255,8 @@ echoes_by (Some agreed) now c =
     echoes_in (context_for agreed verification (syntax_uid Implicit)) agreed now c
 echoes_by None now c = effect [] c
 
--- an echo is asked of an end that may send; another does nothing
+-- An echo is asked of an end that may send; another does nothing. Want of memory ends it only where
+-- something was to be written.
 abbrev pub EchoesBy : Bool → ℕ → Core → Terminal
     → Result (List LinkAction) AllocError
     → Terminal → Type 0
@@ -262,7 +264,8 @@ EchoesBy false now c old result new = (result ≡ Ok []) × (new ≡ old)
 EchoesBy true now c old (Ok acts) new =
     (acts ≡ (echoes_by c.agreed now c).acts)
     × (new ≡ record { ear = old.ear; core = Some (echoes_by c.agreed now c).core })
-EchoesBy true now c old (Err e) new = new ≡ record { ear = old.ear; core = None }
+EchoesBy true now c old (Err e) new =
+    HasActs (echoes_by c.agreed now c).acts × (new ≡ record { ear = old.ear; core = None })
 
 abbrev pub EchoesIn : Option Core → ℕ → Terminal
     → Result (List LinkAction) AllocError

@@ -212,14 +212,15 @@ BreaksOn step moment ear pdus core s t =
     × IsLast ear.limit ear.kept last
     × BreaksOff step [] core (map (at_moment moment) (flat_map inputs_of pdus ++ last)) s t)
 
--- a piece that was left on the way, as memory ended: nothing was done, or some first inputs of the
--- PDUs that it ends
+-- A piece that was left on the way, as memory ended: nothing was done, or some first inputs of the
+-- PDUs that it ends. Behind what is no PDU none is: nothing is kept there.
 abbrev pub BreaksBytes : {S : Type 0}
     → (S → DeskCall → DeskAnswer → S → Type 0)
     → Moment → Feeding → Core → List ℕ → S → S → Type 0
 BreaksBytes step moment ear core piece s t =
-    (t ≡ s)
+    (ear.failed ≡ false)
+    × ((t ≡ s)
     ⊎ ((pdus : List Pdu) × (rest : List ℕ) × (last : List Input)
     × Run (StartsPdu ear.limit) pdus (ear.kept ++ piece) rest
     × IsLast ear.limit rest last
-    × BreaksOff step [] core (map (at_moment moment) (flat_map inputs_of pdus ++ last)) s t)
+    × BreaksOff step [] core (map (at_moment moment) (flat_map inputs_of pdus ++ last)) s t))

@@ -1,25 +1,23 @@
 //! The echo of a requestor.
-ghost use Rattle.std.specs.Prelude.{◌≡◌, ◌∷◌, [], IfOk, false};
+ghost use Rattle.std.specs.Prelude.{◌≡◌, ◌∷◌, [], IfOk, OnErr, false};
 ghost use Rattle.dr_base.specs.Syntaxes.{syntax_uid};
 ghost use Rattle.dr_base.specs.declared.syntax.Syntax.TheVariants.{Implicit};
 ghost use Rattle.dr_dimse.specs.declared.command.Command.TheVariants.{EchoRq};
 ghost use Rattle.dr_nego.specs.Agreeing.{context_for};
 ghost use Rattle.dr_base.specs.Standard.{verification};
+ghost use Rattle.dr_session.specs.Breaks.{HasActs};
 ghost use Rattle.dr_session.specs.Ends.{echoes_by, echoes_in, is_free};
 ghost use Rattle.dr_session.specs.Messages.{command_pdus};
 ghost use Rattle.dr_session.specs.Reactions.{id_after, write};
 
 use crate::boxed::BoxedCore;
 use crate::ends::{Core, Effect, LinkAction, Pending, Requested};
-use crate::negotiated::Negotiated;
+use crate::negotiated::{Negotiated, VERIFICATION};
 use crate::react::{act_once, next_id, quiet};
 use crate::writing::write_response;
-use dr_base::{Syntax, Text};
+use dr_base::Text;
 use dr_dimse::Command;
 use std::alloc::{AllocError, Global};
-
-/// Verification (PS3.4 A.4).
-const VERIFICATION: &[u8] = b"1.2.840.10008.1.1";
 
 /// Whether it is a requestor that is established, has nothing pending and may send.
 pub fn is_free(core: &Core) -> bool
@@ -28,19 +26,20 @@ pub fn is_free(core: &Core) -> bool
     core.phase.is_requestor() && core.pending.is_none() && core.phase.may_send()
 }
 
-/// A C-ECHO-RQ goes out in a context of Verification, where one was accepted.
+/// A C-ECHO-RQ goes out in a context of Verification, where one was accepted. Where none was, it
+/// takes no memory.
 pub fn ask_echo(alloc: Global, core: BoxedCore, now: u64) -> Result<Effect, AllocError>
-    ensures { IfOk result (λ e. e ≡ echoes_by core.agreed now core) }
+    ensures done { IfOk result (λ e. e ≡ echoes_by core.agreed now core) }
+    ensures wants { OnErr result (HasActs (echoes_by core.agreed now core).acts) }
 {
     let Some(agreed) = &core.as_core().agreed else {
         return Ok(quiet(alloc, core));
     };
-    let class = Text::copy_of(alloc, VERIFICATION)?;
-    let Some(context) = agreed.context_for(&class, Syntax::Implicit) else {
+    let Some(context) = agreed.echo_context() else {
         return Ok(quiet(alloc, core));
     };
     let id = next_id(core.as_core().last);
-    let action = write_echo(alloc, agreed, context, id, class)?;
+    let action = write_echo(alloc, agreed, context, id)?;
     let pending = Pending {
         id,
         context,
@@ -56,12 +55,11 @@ fn write_echo(
     agreed: &Negotiated,
     context: u8,
     id: u16,
-    class: Text,
 ) -> Result<LinkAction, AllocError>
-    requires { class ≡ verification }
     ensures { IfOk result (λ a.
         a ≡ write (command_pdus agreed.now.limit context (EchoRq id verification false))) }
 {
+    let class = Text::copy_of(alloc, VERIFICATION)?;
     let command = Command::EchoRq {
         id,
         class,

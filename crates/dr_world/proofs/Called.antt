@@ -56,40 +56,40 @@ module _ {L : Type 0} {l : Ghosts L} (old new : BTreeMap Text (Node L l)) (name 
   seats_are site q = ap (option_map seat_of) (now_at q) ∙ by_name site q (same_text q name)
 
   module _ (link now : ℕ) where
-    met_there_of : (event : LinkEvent) (acts : List LinkAction) → Does (MeetsEvent (LedgerStep l.site l.book l.bodies l.armed l.trusts l.stands) event) now link n.links n.desk (Ok acts) after.links after.desk → IsDoneAt (event_at event) name link now old acts new
+    met_there_of : (event : LinkEvent) (acts : List LinkAction) → Does (MeetsEvent (LedgerStep l.site l.book l.bodies l.armed l.trusts l.stands l.failed) event) now link n.links n.desk (Ok acts) after.links after.desk → IsDoneAt (event_at event) name link now old acts new
     met_there_of event acts h =
-        let site = input_stays l.site l.book l.bodies l.armed l.trusts l.stands event now link n.links after.links n.desk after.desk (Ok acts) h in (
+        let site = input_stays l.site l.book l.bodies l.armed l.trusts l.stands l.failed event now link n.links after.links n.desk after.desk (Ok acts) h in (
           n,
           sym has,
-          all_stood (input_stood l.site l.book l.bodies l.armed l.trusts l.stands event now link n.links after.links n.desk after.desk (Ok acts) h),
+          all_stood (input_stood l.site l.book l.bodies l.armed l.trusts l.stands l.failed event now link n.links after.links n.desk after.desk (Ok acts) h),
           λ all. (
             after.links,
             desk (l.book after.desk.ledger) (l.armed after.desk.ledger),
-            input_booked l.site l.book l.bodies l.armed l.trusts l.stands (l.site n.desk.ledger) event now link n.links after.links n.desk after.desk (Ok acts) h (all name after now_here, site),
+            input_booked l.site l.book l.bodies l.armed l.trusts l.stands l.failed (l.site n.desk.ledger) event now link n.links after.links n.desk after.desk (Ok acts) h (all name after now_here, site),
             seats_are site,
           ),
         )
 
-    pushed_there_of : (acts : List LinkAction) → Does (Pushes (LedgerStep l.site l.book l.bodies l.armed l.trusts l.stands)) now link n.links n.desk (Ok acts) after.links after.desk → IsDoneAt push_at name link now old acts new
+    pushed_there_of : (acts : List LinkAction) → Does (Pushes (LedgerStep l.site l.book l.bodies l.armed l.trusts l.stands l.failed)) now link n.links n.desk (Ok acts) after.links after.desk → IsDoneAt push_at name link now old acts new
     pushed_there_of acts h =
-        let site = push_stays l.site l.book l.bodies l.armed l.trusts l.stands now link n.links after.links n.desk after.desk (Ok acts) h in (
+        let site = push_stays l.site l.book l.bodies l.armed l.trusts l.stands l.failed now link n.links after.links n.desk after.desk (Ok acts) h in (
           n,
           sym has,
-          all_stood (push_stood l.site l.book l.bodies l.armed l.trusts l.stands now link n.links after.links n.desk after.desk (Ok acts) h),
+          all_stood (push_stood l.site l.book l.bodies l.armed l.trusts l.stands l.failed now link n.links after.links n.desk after.desk (Ok acts) h),
           λ all. (
             after.links,
             desk (l.book after.desk.ledger) (l.armed after.desk.ledger),
-            push_booked l.site l.book l.bodies l.armed l.trusts l.stands (l.site n.desk.ledger) now link n.links after.links n.desk after.desk (Ok acts) h (all name after now_here, site),
+            push_booked l.site l.book l.bodies l.armed l.trusts l.stands l.failed (l.site n.desk.ledger) now link n.links after.links n.desk after.desk (Ok acts) h (all name after now_here, site),
             seats_are site,
           ),
         )
 
-    pub met_result : (event : LinkEvent) (r : Result (List LinkAction) NodeFault) → Does (MeetsEvent (LedgerStep l.site l.book l.bodies l.armed l.trusts l.stands) event) now link n.links n.desk r after.links after.desk
+    pub met_result : (event : LinkEvent) (r : Result (List LinkAction) NodeFault) → Does (MeetsEvent (LedgerStep l.site l.book l.bodies l.armed l.trusts l.stands l.failed) event) now link n.links n.desk r after.links after.desk
         → IfOk r (λ all. IsDoneAt (event_at event) name link now old all new)
     met_result event (Ok all) h = met_there_of event all h
     met_result event (Err why) h = tt
 
-    pub pushed_result : (r : Result (List LinkAction) NodeFault) → Does (Pushes (LedgerStep l.site l.book l.bodies l.armed l.trusts l.stands)) now link n.links n.desk r after.links after.desk → IfOk r (λ all. IsDoneAt push_at name link now old all new)
+    pub pushed_result : (r : Result (List LinkAction) NodeFault) → Does (Pushes (LedgerStep l.site l.book l.bodies l.armed l.trusts l.stands l.failed)) now link n.links n.desk r after.links after.desk → IfOk r (λ all. IsDoneAt push_at name link now old all new)
     pushed_result (Ok all) h = pushed_there_of all h
     pushed_result (Err why) h = tt
 

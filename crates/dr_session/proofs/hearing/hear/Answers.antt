@@ -6,7 +6,7 @@ use Rattle.dr_pdu.specs.Feeding.{Feeds}
 use Rattle.dr_session.specs.declared.ends.Effect.{Effect}
 use Rattle.dr_session.specs.declared.ends.Input.{Input}
 use Rattle.dr_session.specs.Plays.{Plays, PlaysOn, PlaysBytes, BreaksOff, BreaksOn, BreaksBytes, at_moment, input_of}
-use Rattle.dr_session.proofs.Pieces.{run_fits, hears_none, hears_failed, hears_fault, plays_nothing, plays_fault, breaks_fault, plays_pdus, breaks_pdus, refused, more_never, failed_before, fault_fits, if_ok, if_err, nothing_fed, ends_there}
+use Rattle.dr_session.proofs.Pieces.{run_fits, hears_none, hears_failed, hears_fault, plays_nothing, plays_fault, breaks_fault, plays_pdus, breaks_pdus, refused, more_never, failed_before, memory_before, fault_fits, if_ok, if_err, nothing_fed, ends_there}
 use Rattle.dr_session.proofs.hearing.hear.Goals as goal
 
 pub returns-then-is_empty-clause-done : goal.returns-then-is_empty-clause-done
@@ -45,7 +45,9 @@ returns-else-is_empty-clause-broke g c =
     c.hear_on.ensures.broke
 
 pub returns-in-Memory-clause-broke : goal.returns-in-Memory-clause-broke
-returns-in-Memory-clause-broke g c = inl refl
+returns-in-Memory-clause-broke g c =
+    let F : Result (List Pdu) PduFault → Type 0 = λ r. Feeds c.args.ear.now c.args.piece.now r c.feed.new.self in
+    ((memory_before c.args.ear.now c.args.piece.now c.in-Err.fault c.feed.new.self c.in-Memory.is (subst F c.in-Err.is c.feed.ensures)).0, inl refl)
 
 pub returns-in-Failed-clause-done : goal.returns-in-Failed-clause-done
 returns-in-Failed-clause-done g c =
@@ -81,5 +83,5 @@ returns-in_default-clause-broke g c =
     let P : Input → Type 0 = λ i. OnErr c.hear_one.result (BreaksOff g.P.DeskPort.step [] c.args.core (at_moment c.args.at i ∷ []) c.args.port.now c.hear_one.new.port) in
     if_err c.hear_one.result _ _
     (λ (h : BreaksOff g.P.DeskPort.step [] c.args.core (at_moment c.args.at (input_of c.in-Err.fault) ∷ []) c.args.port.now c.hear_one.new.port).
-    breaks_fault g.P.DeskPort.step c.args.at c.args.ear.now c.args.piece.now c.in-Err.fault c.args.core c.args.port.now c.hear_one.new.port r.is r.shows h)
+    breaks_fault g.P.DeskPort.step c.args.at c.args.ear.now c.args.piece.now c.in-Err.fault c.args.core c.args.port.now c.hear_one.new.port r.works r.is r.shows h)
     (subst P c.fault_input.ensures c.hear_one.ensures.broke)

@@ -13,5 +13,7 @@ returns g c = (
     c.due.ensures.armed,
   ),
   λ stands. (c.due.ensures.same stands).1,
+  λ stands. tt,
+  c.due.ensures.counts,
   c.due.ensures.lasts,
 )

@@ -12,7 +12,7 @@ returns-in_default c =
 pub returns-in_err-effect : goal.returns-in_err-effect
 returns-in_err-effect c =
     let T : Option Core → Type 0 = λ o. TakesFree c.args.self.now o c.take_free.new.self in
-    echoes_broke c.args.now c.in-Some.core c.args.self.now c.take_free.new.self c.from_residual.result (subst T c.in-Some.is c.take_free.ensures) c.from_residual.ensures.0
+    echoes_broke c.args.now c.in-Some.core c.args.self.now c.take_free.new.self c.from_residual.result (subst T c.in-Some.is c.take_free.ensures) c.from_residual.ensures.0 c.in_err-effect.ensures.wants
 
 pub put-requires : goal.put-requires
 put-requires c =
@@ -23,4 +23,4 @@ put-requires c =
 pub returns : goal.returns
 returns c =
     let T : Option Core → Type 0 = λ o. TakesFree c.args.self.now o c.take_free.new.self in
-    echoes_done c.args.now c.in-Some.core c.args.self.now c.take_free.new.self c.put.new.self c.in_ok-effect.effect (subst T c.in-Some.is c.take_free.ensures) c.put.ensures c.in_ok-effect.ensures
+    echoes_done c.args.now c.in-Some.core c.args.self.now c.take_free.new.self c.put.new.self c.in_ok-effect.effect (subst T c.in-Some.is c.take_free.ensures) c.put.ensures c.in_ok-effect.ensures.done
