@@ -15,6 +15,7 @@ pub mod EndsAlone
 pub mod Fragments
 pub mod Fronts
 pub mod Giving
+pub mod Laws
 pub mod LinksToOthers
 pub mod MixedChanges
 pub mod MixedCounts

@@ -29,6 +29,12 @@ ghost use Rattle.dr_world_tie.specs.ForeignCalls.{ResponsesAreReplies};
 ghost use Rattle.dr_world_tie.specs.ForeignLinks.{WhatAcceptorsHear, WhatRequestorsHear};
 ghost use Rattle.dr_world_tie.specs.ForeignWorlds.{EndsAreAskedSo, OthersAreNotHere};
 ghost use Rattle.dr_world_tie.specs.ForeignWorlds.{OursCanListen, OwnWorldsKeepTheClaims};
+ghost use Rattle.dr_world_tie.specs.Laws.{EndsMayBeAsked, EndsMayMeet, MovesAreOfTheirEnds};
+ghost use Rattle.dr_world_tie.specs.Laws.{MovesAreWhole, NoRequestIsWritten, OpenFromSixToTwelve};
+ghost use Rattle.dr_world_tie.specs.Laws.{StepsAreOfTheirKind, TakesOverNothingOn};
+ghost use Rattle.dr_world_tie.specs.Laws.{WhatComesComesNow, WhatIsNoBytesMayCome};
+ghost use Rattle.dr_world_tie.specs.Laws.{WhatIsToldIsSeen, WhatMayBeIsDone};
+ghost use Rattle.dr_world_tie.specs.Laws.{WhatNodesAreToldIsDone};
 ghost use Rattle.dr_world_tie.specs.MixedChanges.{MixedCanTake, MixedChangesKeepTheClaims};
 ghost use Rattle.dr_world_tie.specs.MixedWorlds.{BothKindsStandThere, MixedWorldsKeepTheClaims};
 ghost use Rattle.dr_world_tie.specs.MixedWorlds.{OwnRunsAreMixed, PairsAreOurs};
@@ -277,4 +283,34 @@ pub fn changes_among_others()
 pub fn changes_with_both_kinds()
     ensures claims { MixedChangesKeepTheClaims }
     ensures takes { MixedCanTake }
+{}
+
+/// A step is an event of its own kind alone, at the nodes or the link that it names. It may be none
+/// only where the end is off, where nothing was due, where the bytes end no message, or where what
+/// is to be forgotten is under way.
+pub fn steps_are_of_their_kind()
+    ensures moves { MovesAreOfTheirEnds }
+    ensures kinds { StepsAreOfTheirKind }
+    ensures seen { WhatIsToldIsSeen }
+{}
+
+/// What may be done is done: as many bytes are moved as were asked for, or all that is left of the
+/// PDU. A link over a hop is opened, and a node of the plan does what it is told. A plan is taken
+/// over no end of a link between two of ours that is on.
+pub fn what_may_be_is_done()
+    ensures moved { MovesAreWhole }
+    ensures done { WhatMayBeIsDone }
+    ensures told { WhatNodesAreToldIsDone }
+    ensures states { OpenFromSixToTwelve }
+    ensures taken { TakesOverNothingOn }
+{}
+
+/// What may come to an end of ours, and what may be asked of it. What comes comes at the world's
+/// moment. A request, and a response to a store with status 0, is none of what says no success.
+pub fn ends_may_meet()
+    ensures comes { WhatIsNoBytesMayCome }
+    ensures meets { EndsMayMeet }
+    ensures asked { EndsMayBeAsked }
+    ensures now { WhatComesComesNow }
+    ensures written { NoRequestIsWritten }
 {}
