@@ -3,18 +3,15 @@ use Rattle.std.specs.Prelude.{◌≡◌, ℕ, Bool, List, [], ◌∷◌, ◌++�
 use Rattle.std.specs.Prelude.{nat_le, nat_lt, flat_map, if◌then◌else◌, Option, Some, None, codes}
 use Rattle.std.specs.Borrow.{Bor}
 use Rattle.dr_base.specs.Texts.{Text}
+use Rattle.dr_base_quoted.specs.Quoting.{hex_digit}
 
 -- the byte is a character of ASCII that prints, or a blank
 abbrev pub is_printable : ℕ → Bool
 is_printable byte = nat_le 32 byte && nat_le byte 126
 
--- 0 to 9, then a to f
-abbrev pub digit_of : ℕ → ℕ
-digit_of number = if nat_lt number 10 then 48 + number else 87 + number
-
 -- `\x`, and the two digits of a byte
 abbrev pub hex_byte : ℕ → Text
-hex_byte byte = 92 ∷ 120 ∷ digit_of (byte / 16) ∷ digit_of (byte % 16) ∷ []
+hex_byte byte = 92 ∷ 120 ∷ hex_digit (byte / 16) ∷ hex_digit (byte % 16) ∷ []
 
 -- a byte between quotes: a quote (34) and a backslash (92) stand behind a backslash, and what isn't
 -- printable has its digits

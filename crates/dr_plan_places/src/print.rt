@@ -1,6 +1,7 @@
 //! Words for people.
 ghost use Rattle.std.specs.Prelude.{◌≡◌, ◌<◌, ◌++◌, ◌/◌, ◌%◌, ◌∷◌, [], OnOk, flat_map};
-ghost use Rattle.dr_plan_places.specs.Shown.{digit_of, is_printable, shown_byte, shown, shown_name};
+ghost use Rattle.dr_base_quoted.specs.Quoting.{hex_digit};
+ghost use Rattle.dr_plan_places.specs.Shown.{is_printable, shown_byte, shown, shown_name};
 
 use dr_base::Text;
 use dr_base::fields::add_decimal;
@@ -18,7 +19,7 @@ pub fn add_index(out: &mut Vec<u8>, index: usize) -> Result<(), AllocError> {
 /// The digit in hexadecimal.
 fn digit(nibble: u8) -> u8
     requires { nibble < 16 }
-    ensures { result ≡ digit_of nibble }
+    ensures { result ≡ hex_digit nibble }
 {
     if nibble < 10 {
         return 48 + nibble;
@@ -45,7 +46,7 @@ fn add_behind(out: &mut Vec<u8>, byte: u8) -> Result<(), AllocError>
 /// The byte by its two hexadecimal digits.
 fn add_hex(out: &mut Vec<u8>, byte: u8) -> Result<(), AllocError>
     ensures { OnOk result (out.new.items ≡ out.old.items
-        ++ (92 ∷ 120 ∷ digit_of (byte / 16) ∷ digit_of (byte % 16) ∷ [])) }
+        ++ (92 ∷ 120 ∷ hex_digit (byte / 16) ∷ hex_digit (byte % 16) ∷ [])) }
 {
     out.extend_from_slice(b"\\x")?;
     out.push(digit(byte / 16))?;
