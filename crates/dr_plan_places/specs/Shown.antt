@@ -9,16 +9,13 @@ use Rattle.dr_base_quoted.specs.Quoting.{hex_digit}
 abbrev pub is_printable : ℕ → Bool
 is_printable byte = nat_le 32 byte && nat_le byte 126
 
--- `\x`, and the two digits of a byte
-abbrev pub hex_byte : ℕ → Text
-hex_byte byte = 92 ∷ 120 ∷ hex_digit (byte / 16) ∷ hex_digit (byte % 16) ∷ []
-
 -- a byte between quotes: a quote (34) and a backslash (92) stand behind a backslash, and what isn't
--- printable has its digits
+-- printable stands as `\x` (92, 120) and its two digits
 abbrev pub shown_byte : ℕ → Text
 shown_byte byte =
     if (byte == 34) || (byte == 92) then 92 ∷ byte ∷ []
-    else (if is_printable byte then byte ∷ [] else hex_byte byte)
+    else (if is_printable byte then byte ∷ []
+    else 92 ∷ 120 ∷ hex_digit (byte / 16) ∷ hex_digit (byte % 16) ∷ [])
 
 -- a text in quotes
 abbrev pub shown : Text → Text
