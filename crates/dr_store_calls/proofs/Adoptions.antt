@@ -40,11 +40,12 @@ needed_still b bodies has = record {
 }
 
 pub adopted_ledgers_are_of_the_next : AdoptedLedgersAreOfTheNext
-adopted_ledgers_are_of_the_next past part next old new plan n moment below l w owned =
+adopted_ledgers_are_of_the_next past part next old new plan n moment below l w owned seal =
     let it = adoptions_adopt old new plan n moment below w in
     let b = book_of old in
     record {
       owned = owned;
+      counted = l.counted ∙ ap (λ s. s.count) (sym seal);
       together = untouched old new w.items w.prints l.together;
       numbered = one_line_more n (adopted_line n moment) old new refl w.journal l.numbered;
       ahead = λ m later. ap (λ rows. names_in rows m) w.targets ∙ l.ahead m (omega (arith, later));
