@@ -5,6 +5,7 @@ use Rattle.sqlite.specs.Order.{Row}
 use Rattle.sqlite.specs.Tree.{Trees, put_row, rowid}
 use Rattle.dr_site.specs.Parts.{Part}
 use Rattle.dr_ledger.specs.Books.{Line}
+use Rattle.dr_store_sealed.specs.declared.seal.Seal.{Seal}
 use Rattle.dr_store_sealed.specs.InTables.{seal_said}
 use Rattle.dr_store_changes.specs.Writing.{AreNumberedTo}
 use Rattle.dr_store_changes.proofs.Numbers.{lines_count_up}
@@ -24,7 +25,7 @@ same_seal base db site =
 pub still_counted : (past : List Line) (base db : Trees) → db 0 ≡ base 0
     → length past ≡ (seal_in base).count → length past ≡ (seal_in db).count
 still_counted past base db site counted =
-    counted ∙ ap (λ s. s.count) (sym (same_seal base db site))
+    counted ∙ ap (λ (s : Seal). s.count) (sym (same_seal base db site))
 
 -- lines count up with the one that is added
 pub one_line_more : {first : ℕ} (n : ℕ) (line : Row) (base db : Trees) → rowid line ≡ Int (pos n)

@@ -132,7 +132,7 @@ owners_are_one mark seal last end part other db one two =
 
 pub seals_are_read : SealsAreRead
 seals_are_read mark seal part db owned =
-    ap (λ rows. seal_said (behind_mark (drop 32 (cell_in rows)))) owned.2
+    ap (λ (rows : List Row). seal_said (behind_mark (drop 32 (cell_in rows)))) owned.2
     ∙ ap seal_said (seal_behind mark seal (drop 32 owned.0) (behind_of mark seal part.digest owned.0 owned.1))
 
 pub marks_are_one : (mark last : List ℕ) (part other : Part) (db : Trees) → IsOwnedWith mark part db → IsOwnedWith last other db → (part.name ≡ other.name) × (part.digest ≡ other.digest) × (mark ≡ last)

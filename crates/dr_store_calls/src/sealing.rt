@@ -43,7 +43,8 @@ fn sealed_cell(
         → IsPlanWith mark.now (bytes_of_seal last.now) site.now.digest cell.items) }
 {
     let seal = seal_bytes(alloc, last)?;
-    plan_cell(alloc, site.digest(), mark, &seal)
+    let cell = plan_cell(alloc, site.digest(), mark, &seal)?;
+    Ok(cell)
 }
 
 /// Seals the lines of a site's ledger up to this seal, with this mark, where the tables have this
