@@ -8,6 +8,7 @@ use Rattle.sqlite.specs.Order.{Row}
 use Rattle.sqlite.specs.Tree.{Trees}
 use Rattle.dr_site.specs.Parts.{Part}
 use Rattle.dr_store_writes.specs.Effects.{IsSiteOf, site_row}
+use Rattle.dr_store_sealed.specs.declared.seal.Seal.{Seal}
 use Rattle.dr_store_sealed.specs.InTables.{IsSealText, seal_said}
 use Rattle.dr_store_calls.specs.Owners.{IsMark, IsMarkAndSeal, IsOwnedSo, IsOwnedWith, IsPlanWith, behind_mark, cell_in, seal_in}
 use Rattle.dr_store_calls.specs.AdoptionLaws.{AdoptionsKeepMarkAndSeal, AdoptionsKeepTheSeal, EmptyTablesAreOwnedByNone, OwnersAreOne}
@@ -134,6 +135,10 @@ pub seals_are_read : SealsAreRead
 seals_are_read mark seal part db owned =
     ap (λ (rows : List Row). seal_said (behind_mark (drop 32 (cell_in rows)))) owned.2
     ∙ ap seal_said (seal_behind mark seal (drop 32 owned.0) (behind_of mark seal part.digest owned.0 owned.1))
+
+-- where site says no seal, no line has left
+pub none_has_left : (mark : List ℕ) (part : Part) (db : Trees) → IsOwnedSo mark [] part db → 0 ≡ (seal_in db).count
+none_has_left mark part db owned = ap (λ (s : Seal). s.count) (sym (seals_are_read mark [] part db owned))
 
 pub marks_are_one : (mark last : List ℕ) (part other : Part) (db : Trees) → IsOwnedWith mark part db → IsOwnedWith last other db → (part.name ≡ other.name) × (part.digest ≡ other.digest) × (mark ≡ last)
 marks_are_one mark last part other db one two = let same = owners_are_one mark one.0 last two.0 part other db one.1 two.1 in (same.0, same.1, same.2)

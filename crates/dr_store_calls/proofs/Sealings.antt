@@ -86,6 +86,11 @@ module _ (n : ℕ) (part : Part) (last : Seal) (old new : State) (mark before wa
     crash = λ {past} clean k asks db left. may_be (Err e) w clean k asks db left;
   }
 
+-- what holds anyway holds where it was accepted
+pub where_ok : {A E : Type 0} (r : Result A E) (P : Type 0) → P → OnOk r P
+where_ok (Ok done) P holds = holds
+where_ok (Err why) P holds = tt
+
 -- where nothing is tried
 pub not_sealed : (n : ℕ) (part : Part) (last : Seal) (s : State) (Asks : Trees → Type 0) (e : LedgerFault) → IsOwnFault e → Sealed n part last (Err e) s s Asks
 not_sealed n part last s Asks e own = record {

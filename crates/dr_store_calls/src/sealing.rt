@@ -33,12 +33,7 @@ fn write_seal<S: Alter>(conn: &mut Connection<S>, cell: &[u8]) -> Result<(), Led
 }
 
 /// What site has for the plan of this site, with this mark and this seal.
-fn sealed_cell(
-    alloc: Global,
-    site: &Site,
-    mark: &[u8],
-    last: &Seal,
-) -> Result<Vec<u8>, AllocError>
+fn sealed_cell(alloc: Global, site: &Site, mark: &[u8], last: &Seal) -> Result<Vec<u8>, AllocError>
     ensures { IfOk result (λ cell. IsMark mark.now
         → IsPlanWith mark.now (bytes_of_seal last.now) site.now.digest cell.items) }
 {
