@@ -44,9 +44,9 @@ module _ (n : ℕ) (part : Part) (last : Seal) (old new : State) (mark before wa
       let says : seal_in db ≡ last = seals_are_read mark text part db owns ∙ (seals_are_read_back last fit).1 in (
         (lines_may_leave past n part cell base db l w (mark, (text, owns)) (ap (λ (s : Seal). s.count + 1) says ∙ counts)).0,
         record {
-          seal = says;
           book = sealings_take_just_lines.book cell base db w;
           bodies = sealings_take_just_lines.bodies cell base db w;
+          seal = says;
           owned = λ other end owned. subst (λ m. IsOwnedSo m text part db) (sym (owners_are_one other end mark before part part base owned first).2) owns;
         },
       )

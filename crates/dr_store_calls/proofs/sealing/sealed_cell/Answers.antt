@@ -13,6 +13,6 @@ returns c = λ marked.
     let fit : IsOfCode last = record { count = search rules; chain = search rules; number = search rules; offset = search rules } in
     let is : text ≡ bytes_of_seal last = search rules in
     let long : IsSealText text = subst IsSealText (sym is) (seals_are_read_back last fit).0 in
-    let made = c.in_ok-plan_cell.result.items in
+    let made = c.in_ok-cell.cell.items in
     subst (λ d. IsPlanWith mark (bytes_of_seal last) d made) c.digest.ensures
-    (subst (λ s. IsPlanWith mark s c.digest.result.now made) is (c.in_ok-plan_cell.ensures marked long))
+    (subst (λ s. IsPlanWith mark s c.digest.result.now made) is (c.in_ok-cell.ensures marked long))
