@@ -1,7 +1,7 @@
 //! Lines that leave the tables.
 ghost use Rattle.std.specs.Prelude.{◌≡◌, ◌↔◌, ◌+◌, false, IfErr, IfOk, IsTrue, List, OnOk, ℕ};
 ghost use Rattle.sqlite.specs.Held.{state};
-ghost use Rattle.dr_store_sealed.specs.InTables.{bytes_of_seal};
+ghost use Rattle.dr_store_sealed.specs.InTables.{IsOfCode, bytes_of_seal};
 ghost use Rattle.dr_store_writes.specs.Effects.{HasSite, IsSiteOf};
 ghost use Rattle.dr_store_changes.specs.Sealing.{SealsLines};
 ghost use Rattle.dr_store_changes.specs.Writing.{Transacted};
@@ -34,8 +34,9 @@ fn write_seal<S: Alter>(conn: &mut Connection<S>, cell: &[u8]) -> Result<(), Led
 
 /// What site has for the plan of this site, with this mark and this seal.
 fn sealed_cell(alloc: Global, site: &Site, mark: &[u8], last: &Seal) -> Result<Vec<u8>, AllocError>
-    ensures { IfOk result (λ cell. IsMark mark.now
+    ensures cell { IfOk result (λ cell. IsMark mark.now
         → IsPlanWith mark.now (bytes_of_seal last.now) site.now.digest cell.items) }
+    ensures of_code { IfOk result (λ cell. IsOfCode last.now) }
 {
     let seal = seal_bytes(alloc, last)?;
     let cell = plan_cell(alloc, site.digest(), mark, &seal)?;

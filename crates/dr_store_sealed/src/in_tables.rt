@@ -1,6 +1,7 @@
 //! What a ledger's tables have for a seal.
 ghost use Rattle.std.specs.Prelude.{◌≡◌, ◌+◌, ◌≤◌, IfOk, MatchOption, drop, length, take};
-ghost use Rattle.dr_store_sealed.specs.InTables.{IsSealText, bytes_of_seal, number_at, seal_said};
+ghost use Rattle.dr_store_sealed.specs.InTables.{IsOfCode, IsSealText, bytes_of_seal, number_at};
+ghost use Rattle.dr_store_sealed.specs.InTables.{seal_said};
 
 use crate::seal::Seal;
 use std::alloc::{AllocError, Global};
@@ -9,9 +10,10 @@ use std::alloc::{AllocError, Global};
 const SIZE: usize = 56;
 
 /// The bytes that the tables have for a seal: count, chain, number and offset, each number in eight
-/// bytes, the lowest first.
+/// bytes, the lowest first. They say just that seal, since its numbers have 64 bits.
 pub fn seal_bytes(alloc: Global, seal: &Seal) -> Result<Vec<u8>, AllocError>
-    ensures { IfOk result (λ bytes. bytes.items ≡ bytes_of_seal seal.now) }
+    ensures bytes { IfOk result (λ bytes. bytes.items ≡ bytes_of_seal seal.now) }
+    ensures of_code { IfOk result (λ bytes. IsOfCode seal.now) }
 {
     let offset = seal.offset as u64;
     let mut bytes = Vec::new(alloc);

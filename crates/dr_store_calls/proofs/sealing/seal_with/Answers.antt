@@ -1,8 +1,8 @@
-use Rattle.std.proofs.Common.{◌≡◌, ◌+◌, inr, refl, length, rules, subst, sym}
+use Rattle.std.proofs.Common.{◌≡◌, ◌+◌, inr, refl, rules, subst}
 use Rattle.sqlite.specs.Held.{state}
 use Rattle.dr_store_writes.specs.Effects.{IsSiteOf}
 use Rattle.dr_ledger.specs.declared.fault.LedgerFault.TheVariants as fault
-use Rattle.dr_store_sealed.specs.InTables.{IsOfCode, bytes_of_seal}
+use Rattle.dr_store_sealed.specs.InTables.{bytes_of_seal}
 use Rattle.dr_store_calls.specs.Owners.{IsPlanWith}
 use Rattle.dr_store_calls.proofs.Sealings.{not_sealed, written_sealed}
 use Rattle.dr_store_calls.proofs.sealing.seal_with.Goals as goal
@@ -15,10 +15,9 @@ returns-in-Ok-clause-sealed g c was before had =
     let made = c.in-Ok.cell.items in
     let cell = c.deref.result.now in
     let same : made ≡ cell = search rules in
-    let fit : IsOfCode last = record { count = search rules; chain = search rules; number = search rules; offset = search rules } in
-    let has : IsPlanWith mark (bytes_of_seal last) part.digest cell = subst (IsPlanWith mark (bytes_of_seal last) part.digest) same (c.in-Ok.ensures had.marked) in
+    let has : IsPlanWith mark (bytes_of_seal last) part.digest cell = subst (IsPlanWith mark (bytes_of_seal last) part.digest) same (c.in-Ok.ensures.cell had.marked) in
     written_sealed (last.count + 1) part last (state g.S.Store c.args.conn.now) (state g.S.Store c.write_seal.new.conn)
-    mark before was cell fit refl had has c.write_seal.result c.write_seal.ensures.fault (c.write_seal.ensures.written (last.count + 1))
+    mark before was cell c.in-Ok.ensures.of_code refl had has c.write_seal.result c.write_seal.ensures.fault (c.write_seal.ensures.written (last.count + 1))
 
 pub returns-in-Err-clause-sealed : goal.returns-in-Err-clause-sealed
 returns-in-Err-clause-sealed g c was before had =
