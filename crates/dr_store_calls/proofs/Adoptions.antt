@@ -10,6 +10,7 @@ use Rattle.dr_ledger.specs.SiteRoutes.{site_routing}
 use Rattle.dr_ledger.proofs.Needs.{adoptions_need_the_same}
 use Rattle.dr_ledger_past.proofs.Goings.{adoptions_go_on}
 use Rattle.dr_ledger_past.specs.Pasts.{with_past}
+use Rattle.dr_store_sealed.specs.declared.seal.Seal.{Seal}
 use Rattle.dr_store_schema.specs.Books.{AreBelow, all_kept_in, arrivals_in, bodies_by, bodies_of, book_of, contents_in, items_in, lines_in, lines_of, names_in, prints_in, wholes_in}
 use Rattle.dr_store_changes.specs.Bringing.{HasCells}
 use Rattle.dr_store_changes.proofs.Numbers.{lines_put}
@@ -40,11 +41,12 @@ needed_still b bodies has = record {
 }
 
 pub adopted_ledgers_are_of_the_next : AdoptedLedgersAreOfTheNext
-adopted_ledgers_are_of_the_next past part next old new plan n moment below l w owned =
+adopted_ledgers_are_of_the_next past part next old new plan n moment below l w owned seal =
     let it = adoptions_adopt old new plan n moment below w in
     let b = book_of old in
     record {
       owned = owned;
+      counted = l.counted ∙ ap (λ (s : Seal). s.count) (sym seal);
       together = untouched old new w.items w.prints l.together;
       numbered = one_line_more n (adopted_line n moment) old new refl w.journal l.numbered;
       ahead = λ m later. ap (λ rows. names_in rows m) w.targets ∙ l.ahead m (omega (arith, later));

@@ -17,8 +17,9 @@ use Rattle.dr_store_changes.proofs.Movements.{goes_over}
 use Rattle.dr_store_calls.specs.Calling.{Called, IsKept, IsLedgerOf, IsLeftLedger, IsOwnFault, Looked, Nothing}
 use Rattle.dr_store_calls.proofs.Calls.{below_of, looked_failed, own_lasts, still_called}
 use Rattle.dr_store_calls.specs.Adoptions.{Adopted, AdoptsPlan, AnswersAdoption, Clears, IsAdopted, NotesPlan}
-use Rattle.dr_store_calls.specs.Owners.{IsOwnedSo, IsPlanWith}
+use Rattle.dr_store_calls.specs.Owners.{IsOwnedSo, IsPlanWith, seal_in}
 use Rattle.dr_store_calls.proofs.Adoptions.{adopted_ledgers_are_of_the_next, adoptions_adopt}
+use Rattle.dr_store_calls.proofs.Owners.{seals_are_read}
 
 -- ---- the statements
 
@@ -135,8 +136,10 @@ module _ (n : ℕ) (part next : Part) (old new : State) (still : old.in_transact
   adopted_so : {past : List Line} → IsReady n old → IsLedgerOf past n part old.committed.trees → IsSiteOf next.name was old.committed.trees → (db : Trees) → AdoptsPlan cell n moment old.committed.trees db → IsLedgerOf past (n + 1) next db × IsAdopted next old.committed.trees db
   adopted_so {past} ready l asks db w =
       let it = adoptions_adopt old.committed.trees db cell n moment (below_of n old ready) w in
-      let owns : IsOwnedSo mark seal next db = (cell, has, w.site next.name was asks) in (
-        adopted_ledgers_are_of_the_next past part next old.committed.trees db cell n moment (below_of n old ready) l w (mark, (seal, owns)),
+      let owns : IsOwnedSo mark seal next db = (cell, has, w.site next.name was asks) in
+      let owned : IsOwnedSo mark seal last old.committed.trees = (was, had, asks) in
+      let same : seal_in db ≡ seal_in old.committed.trees = seals_are_read mark seal next db owns ∙ sym (seals_are_read mark seal last old.committed.trees owned) in (
+        adopted_ledgers_are_of_the_next past part next old.committed.trees db cell n moment (below_of n old ready) l w (mark, (seal, owns)) same,
         record {
           book = it.0;
           bodies = it.1;
@@ -145,7 +148,7 @@ module _ (n : ℕ) (part next : Part) (old new : State) (still : old.in_transact
             node = refl;
             mark = mark;
             seal = seal;
-            owned = (was, had, asks);
+            owned = owned;
             owns = owns;
           };
         },

@@ -37,7 +37,7 @@ use Rattle.dr_store_reads.specs.Queries.{IsOpenElsewhere}
 use Rattle.dr_store_calls.specs.Calling.{IsLedgerOf}
 use Rattle.dr_store_calls.specs.LettingGo.{GoesWith}
 use Rattle.dr_store_calls.specs.Needs.{IsKeptIn, IsNeededStill}
-use Rattle.dr_store_calls.proofs.Ledgers.{one_line_more, still_owned}
+use Rattle.dr_store_calls.proofs.Ledgers.{one_line_more, still_counted, still_owned}
 
 -- ---- what is needed
 
@@ -108,6 +108,7 @@ settles {past} n part base db uid dest tries due to what now needed early below 
     let unfinished : is_queued (Waiting tries due) ≡ true = refl in (
       record {
         owned = still_owned part base db w.site l.owned;
+        counted = still_counted past base db w.site l.counted;
         together = w.together l.together;
         numbered = one_line_more n line base db refl w.journal l.numbered;
         ahead = moved_ahead base db uid dest to line (not needed) w n l.ahead;
@@ -132,6 +133,7 @@ requeues {past} n moment part base db uid dest why below l held w =
     let again : is_queued (Waiting 0 0) ≡ true = refl in (
       record {
         owned = still_owned part base db w.site l.owned;
+        counted = still_counted past base db w.site l.counted;
         together = w.together l.together;
         numbered = one_line_more n line base db refl w.journal l.numbered;
         ahead = moved_ahead base db uid dest (Waiting 0 0) line false w n l.ahead;
@@ -152,6 +154,7 @@ drops {past} n part base db uid dest why now needed early below l held says w =
     let answer : Drops uid dest now (book_of base) (Ok tt) (book_of db) = ((why, held), book) in (
       record {
         owned = still_owned part base db w.site l.owned;
+        counted = still_counted past base db w.site l.counted;
         together = w.together l.together;
         numbered = one_line_more n line base db refl w.journal l.numbered;
         ahead = moved_ahead base mid uid dest Dropped line (not needed) m n l.ahead;

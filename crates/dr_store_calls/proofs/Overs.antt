@@ -24,7 +24,7 @@ use Rattle.dr_store_reads.specs.Queries.{HasOpen, IsKeyOf}
 use Rattle.dr_store_calls.specs.Calling.{IsLedgerOf, IsOwnFault, Looked}
 use Rattle.dr_store_calls.specs.Needs.{IsKeptIn}
 use Rattle.dr_store_calls.proofs.Reading.{reads_as}
-use Rattle.dr_store_calls.proofs.Ledgers.{one_line_more, still_owned}
+use Rattle.dr_store_calls.proofs.Ledgers.{one_line_more, still_counted, still_owned}
 
 -- ---- what is over
 
@@ -106,6 +106,7 @@ forgets {past} n moment part base db uid below l over w =
     let answer : Forgets uid (book_of base) (Ok tt) (book_of db) = (over, book) in (
       record {
         owned = still_owned part base db w.site l.owned;
+        counted = still_counted past base db w.site l.counted;
         together = forgettings_take_both base db n moment uid w l.together;
         numbered = one_line_more n (forgotten_line n moment uid) base db refl w.journal l.numbered;
         ahead = λ m later. ap (λ rows. names_in rows m) w.targets ∙ l.ahead m (omega (arith, later));

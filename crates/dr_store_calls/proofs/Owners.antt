@@ -8,8 +8,11 @@ use Rattle.sqlite.specs.Order.{Row}
 use Rattle.sqlite.specs.Tree.{Trees}
 use Rattle.dr_site.specs.Parts.{Part}
 use Rattle.dr_store_writes.specs.Effects.{IsSiteOf, site_row}
-use Rattle.dr_store_calls.specs.Owners.{IsMark, IsMarkAndSeal, IsOwnedSo, IsOwnedWith, IsPlanWith, IsSealText}
-use Rattle.dr_store_calls.specs.AdoptionLaws.{AdoptionsKeepMarkAndSeal, EmptyTablesAreOwnedByNone, OwnersAreOne}
+use Rattle.dr_store_sealed.specs.declared.seal.Seal.{Seal}
+use Rattle.dr_store_sealed.specs.InTables.{IsSealText, seal_said}
+use Rattle.dr_store_calls.specs.Owners.{IsMark, IsMarkAndSeal, IsOwnedSo, IsOwnedWith, IsPlanWith, behind_mark, cell_in, seal_in}
+use Rattle.dr_store_calls.specs.AdoptionLaws.{AdoptionsKeepMarkAndSeal, AdoptionsKeepTheSeal, EmptyTablesAreOwnedByNone, OwnersAreOne}
+use Rattle.dr_store_calls.specs.SealLaws.{CellsAreOfOneSeal, SealsAreRead}
 
 -- a test that fails where it can't
 pub never : {P : Type 0} (b : Bool) → (IsTrue b ↔ P) → b ≡ false → P → ⊥
@@ -55,6 +58,10 @@ module _ (bytes front back : List ℕ) (split : IsSplitAt bytes (length bytes % 
     is = sym (take-append-drop (length bytes % 56) bytes) ∙ ap (λ x. x ++ drop (length bytes % 56) bytes) (sym split.1) ∙ ap (λ x. front ++ x) (sym split.2);
   }
 
+-- what is behind the mark
+pub seal_behind : (mark seal bytes : List ℕ) → IsMarkAndSeal mark seal bytes → behind_mark bytes ≡ seal
+seal_behind mark seal bytes it = ap (λ n. drop n bytes) (mark_at mark seal bytes it) ∙ ap (drop (length mark)) it.is ∙ drop_at mark seal (length mark) refl
+
 -- two of them are the same
 both_one : (bytes mark seal last end : List ℕ) → IsMarkAndSeal mark seal bytes → IsMarkAndSeal last end bytes → (mark ≡ last) × (seal ≡ end)
 both_one bytes mark seal last end one two =
@@ -98,6 +105,11 @@ two_pushed none one two a b first second third = third ∙ ap (λ x. x ++ b) (se
 pub three_pushed : (none one two three a b c : List ℕ) → none ≡ [] → one ≡ none ++ a → two ≡ one ++ b → three ≡ two ++ c → three ≡ a ++ (b ++ c)
 three_pushed none one two three a b c first second third fourth = fourth ∙ ap (λ x. x ++ c) (two_pushed none one two a b first second third) ∙ append_assoc a b c
 
+pub cells_are_of_one_seal : CellsAreOfOneSeal
+cells_are_of_one_seal mark seal digest last end other cell one two =
+    let both = both_one (drop 32 cell) mark seal last end (behind_of mark seal digest cell one) (behind_of last end other cell two) in
+    (sym (digest_of mark seal digest cell one) ∙ digest_of last end other cell two, both.0, both.1)
+
 -- ---- an owner
 
 pub one_owner : (db : Trees) (node other cell last : List ℕ) → IsSiteOf node cell db → IsSiteOf other last db → (node ≡ other) × (cell ≡ last)
@@ -119,6 +131,15 @@ owners_are_one mark seal last end part other db one two =
       both.1,
     )
 
+pub seals_are_read : SealsAreRead
+seals_are_read mark seal part db owned =
+    ap (λ (rows : List Row). seal_said (behind_mark (drop 32 (cell_in rows)))) owned.2
+    ∙ ap seal_said (seal_behind mark seal (drop 32 owned.0) (behind_of mark seal part.digest owned.0 owned.1))
+
+-- where site says no seal, no line has left
+pub none_has_left : (mark : List ℕ) (part : Part) (db : Trees) → IsOwnedSo mark [] part db → 0 ≡ (seal_in db).count
+none_has_left mark part db owned = ap (λ (s : Seal). s.count) (sym (seals_are_read mark [] part db owned))
+
 pub marks_are_one : (mark last : List ℕ) (part other : Part) (db : Trees) → IsOwnedWith mark part db → IsOwnedWith last other db → (part.name ≡ other.name) × (part.digest ≡ other.digest) × (mark ≡ last)
 marks_are_one mark last part other db one two = let same = owners_are_one mark one.0 last two.0 part other db one.1 two.1 in (same.0, same.1, same.2)
 
@@ -129,3 +150,7 @@ pub mark_and_seal_are_kept : AdoptionsKeepMarkAndSeal
 mark_and_seal_are_kept part next mark seal base db it owned =
     let same = owners_are_one mark seal it.owner.mark it.owner.seal part it.owner.was base owned it.owner.owned in
     subst (λ m. IsOwnedSo m seal next db) (sym same.2) (subst (λ s. IsOwnedSo it.owner.mark s next db) (sym same.3) it.owner.owns)
+
+pub the_seal_is_kept : AdoptionsKeepTheSeal
+the_seal_is_kept next base db it =
+    seals_are_read it.owner.mark it.owner.seal next db it.owner.owns ∙ sym (seals_are_read it.owner.mark it.owner.seal it.owner.was base it.owner.owned)

@@ -15,6 +15,7 @@ use Rattle.dr_ledger.specs.Books.{Book, Line}
 use Rattle.dr_ledger.specs.Histories.{IsJournalled}
 use Rattle.dr_ledger.specs.SiteRoutes.{site_routing}
 use Rattle.dr_ledger_past.specs.Pasts.{with_past}
+use Rattle.dr_store_sealed.specs.declared.seal.Seal.{Seal}
 use Rattle.dr_store_schema.specs.Books.{AreBelow, all_kept_in, arrivals_in, bodies_by, bodies_of}
 use Rattle.dr_store_schema.specs.Books.{book_of, contents_in, items_in, line_in, lines_in, lines_of}
 use Rattle.dr_store_schema.specs.Books.{names_in, prints_in, rows_in, wholes_in}
@@ -25,7 +26,7 @@ use Rattle.dr_store_changes.specs.Writing.{CountTo, numbers_in}
 use Rattle.dr_store_changes.specs.Sealing.{SealsLines, without_lines}
 use Rattle.dr_store_changes.proofs.Together.{untouched}
 use Rattle.dr_store_calls.specs.Calling.{IsLedgerOf}
-use Rattle.dr_store_calls.specs.PastLaws.{LinesMayLeave, NumbersCountAllLines, SealingsKeepTheBook}
+use Rattle.dr_store_calls.specs.PastLaws.{LinesMayLeave, NumbersCountAllLines, NumbersGoOnFromTheSeal, SealingsKeepTheBook, SealsCountThePast}
 
 -- ---- as many lines as numbers
 
@@ -86,6 +87,20 @@ numbers_count_all_lines past n part db l =
     let both = length-append past (lines_of db) in
     omega (arith, many, lines, both)
 
+pub numbers_go_on_from_the_seal : NumbersGoOnFromTheSeal
+numbers_go_on_from_the_seal past n part db l =
+    let many = how_many n (length past + 1) (numbers_in (db 11)) l.numbered.count in
+    let lines = as_many db in
+    let counted = l.counted in
+    omega (arith, many, lines, counted)
+
+pub seals_count_the_past : SealsCountThePast
+seals_count_the_past past n last part other base db it l =
+    let all = numbers_go_on_from_the_seal past n other db l in
+    let none = ap (λ (b : Book). length b.lines) it.book in
+    let count = ap (λ (s : Seal). s.count) it.seal in
+    (l.counted ∙ count, omega (arith, all, none, count))
+
 -- ---- lines that leave
 
 no_lines : lines_in [] [] ≡ []
@@ -139,12 +154,13 @@ module _ (past : List Line) (plan : List ℕ) (old new : Trees) (w : SealsLines 
       (subst (HasCells without) (sym same_bodies) (record { there = has.there }))
 
 pub lines_may_leave : LinesMayLeave
-lines_may_leave past n part plan old new l w owned =
+lines_may_leave past n part plan old new l w owned counts =
     let first = length (past ++ lines_of old) + 1 in
     let is : n ≡ first = numbers_count_all_lines past n part old l in
     let book = same_book past plan old new w in (
       record {
         owned = owned;
+        counted = omega (arith, is, counts);
         together = untouched old new w.items w.prints l.together;
         numbered = record {
           below = subst (AreBelow n) (sym w.journal) tt;
@@ -160,7 +176,7 @@ lines_may_leave past n part plan old new l w owned =
     )
 
 pub sealings_keep_the_book : SealingsKeepTheBook
-sealings_keep_the_book past seal part base db it =
+sealings_keep_the_book past last part base db it =
     let all = past ++ lines_of base in
     let b = book_of base in
     ap (with_past all) it.book

@@ -40,7 +40,7 @@ use Rattle.dr_store_calls.specs.Calling.{Called, IsLedgerOf, IsOwnFault, Looked,
 use Rattle.dr_store_calls.specs.Knowing.{FitsTables, IsThere}
 use Rattle.dr_store_calls.specs.Receiving.{AcceptsAs, AcceptsOne, AnswersWith, ComesNone, IsAccounted, IsCellTaken, IsDelivered, Receives, ReceivesAs, TakesOn}
 use Rattle.dr_store_calls.proofs.Calls.{asked_as, looked_failed, looked_then, own_lasts, said_as, still_called}
-use Rattle.dr_store_calls.proofs.Ledgers.{one_line_more, still_owned}
+use Rattle.dr_store_calls.proofs.Ledgers.{one_line_more, still_counted, still_owned}
 
 -- ---- a first arrival
 
@@ -114,7 +114,7 @@ module _ {past : List Line} (n : ℕ) (moment : Option ℕ) (part : Part) (how :
 
   pub arrives : IsLedgerOf past (n + 1) part db × (Arrives (site_routing part) caller instance (book_of base) (Ok New) (book_of db) × TakesOn (IsCellTaken how cell) instance base db × IsAccounted (IsCellTaken how cell) (Ok New) instance.uid db)
   arrives = (
-    record { owned = still_owned part base db w.site l.owned; together = w.together l.together; numbered = one_line_more n (arrived_line n moment 0 caller instance) base db refl w.journal l.numbered; ahead = ahead; journalled = arrivals_go_on (site_routing part) past caller instance (book_of base) (book_of db) (Ok New) l.journalled answer; bodied = bodied },
+    record { owned = still_owned part base db w.site l.owned; counted = still_counted past base db w.site l.counted; together = w.together l.together; numbered = one_line_more n (arrived_line n moment 0 caller instance) base db refl w.journal l.numbered; ahead = ahead; journalled = arrivals_go_on (site_routing part) past caller instance (book_of base) (book_of db) (Ok New) l.journalled answer; bodied = bodied },
     (answer, takes, accounted),
   )
 
@@ -133,6 +133,7 @@ repeats {past} n moment part caller instance whole base db line below l was agai
     let has : HasCells (after (Repeat caller instance) (book_of base)) (bodies_of base) = record { there = l.bodied.there } in (
       record {
         owned = still_owned part base db w.site l.owned;
+        counted = still_counted past base db w.site l.counted;
         together = untouched base db w.items w.prints l.together;
         numbered = one_line_more n (arrived_line n moment 1 caller instance) base db refl w.journal l.numbered;
         ahead = λ m later. ap (λ rows. names_in rows m) w.targets ∙ l.ahead m (omega (arith, later));

@@ -6,7 +6,7 @@ use Rattle.dr_ledger.specs.Books.{Adoption, Line, after}
 use Rattle.dr_store_schema.specs.Books.{AreBelow, bodies_of, book_of}
 use Rattle.dr_store_calls.specs.Calling.{IsLedgerOf}
 use Rattle.dr_store_calls.specs.Adoptions.{AdoptsPlan, IsAdopted}
-use Rattle.dr_store_calls.specs.Owners.{IsOwnedBy, IsOwnedSo}
+use Rattle.dr_store_calls.specs.Owners.{IsOwnedBy, IsOwnedSo, seal_in}
 
 -- What an adoption makes of the tables is what it makes of the book; the data sets are the same.
 abbrev pub AdoptionsAdopt : Type 0
@@ -16,13 +16,13 @@ AdoptionsAdopt =
     → (book_of new ≡ after Adoption (book_of old)) × (bodies_of new ≡ bodies_of old)
 
 -- An adoption makes of the tables of a ledger, of whatever site and over whatever past, those of a
--- ledger of the next site, of whatever plan, where that one owns them then.
+-- ledger of the next site, of whatever plan, where that one owns them then, with the same seal.
 abbrev pub AdoptedLedgersAreOfTheNext : Type 0
 AdoptedLedgersAreOfTheNext =
     (past : List Line) (part next : Part) (old new : Trees) (plan : List ℕ) (n : ℕ)
     (moment : Option ℕ)
     → AreBelow n (old 11) → IsLedgerOf past n part old → AdoptsPlan plan n moment old new
-    → IsOwnedBy next new
+    → IsOwnedBy next new → seal_in new ≡ seal_in old
     → IsLedgerOf past (n + 1) next new
 
 -- Tables have one owner: one node, one plan, one mark, and one seal.
@@ -37,6 +37,11 @@ abbrev pub AdoptionsKeepMarkAndSeal : Type 0
 AdoptionsKeepMarkAndSeal =
     (part next : Part) (mark seal : List ℕ) (base db : Trees)
     → IsAdopted next base db → IsOwnedSo mark seal part base → IsOwnedSo mark seal next db
+
+-- So the lines that have left the tables go as far after it as before.
+abbrev pub AdoptionsKeepTheSeal : Type 0
+AdoptionsKeepTheSeal =
+    (next : Part) (base db : Trees) → IsAdopted next base db → seal_in db ≡ seal_in base
 
 -- Where site has no row, nobody owns the tables.
 abbrev pub EmptyTablesAreOwnedByNone : Type 0

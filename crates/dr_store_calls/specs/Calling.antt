@@ -15,19 +15,20 @@ use Rattle.dr_store_schema.specs.Books.{bodies_of, book_of}
 use Rattle.dr_store_changes.specs.Bringing.{GoNowhere, HasCells}
 use Rattle.dr_store_changes.specs.Changes.{AreTogether}
 use Rattle.dr_store_changes.specs.Writing.{AreLedgers, AreNumberedTo, IsReady}
-use Rattle.dr_store_calls.specs.Owners.{IsOwnedBy}
+use Rattle.dr_store_calls.specs.Owners.{IsOwnedBy, seal_in}
 
 -- the disk has returned what was written, and the store is open
 abbrev pub IsSafe : State → Type 0
 IsSafe s = HasCleanDisk s × IsTrue s.is_open
 
 -- What the tables of a ledger of that site show, where its next line has number n, and where these
--- lines of its past stand elsewhere: the site owns the tables, each item is beside its print, and
--- the lines' numbers count up from the one behind the past to the one before n. No line that is
--- still to come goes anywhere, the journal makes the book, the past's lines before those of the
--- tables, and there is a cell for just the data sets that the book needs.
+-- lines of its past stand elsewhere: the site owns the tables, whose seal counts the past, each item
+-- is beside its print, and the lines' numbers count up from the one behind the past to the one
+-- before n. No line that is still to come goes anywhere, the journal makes the book, the past's
+-- lines before those of the tables, and there is a cell for just the data sets that the book needs.
 pub record IsLedgerOf (past : List Line) (n : ℕ) (part : Part) (db : Trees) : Type 0 where
   pub owned : IsOwnedBy part db
+  pub counted : length past ≡ (seal_in db).count
   pub together : AreTogether db
   pub numbered : AreNumberedTo (length past + 1) n (db 11)
   pub ahead : GoNowhere n db

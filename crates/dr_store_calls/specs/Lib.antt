@@ -7,5 +7,6 @@ pub mod Needs
 pub mod Owners
 pub mod PastLaws
 pub mod Receiving
+pub mod SealLaws
 pub mod Sealing
 pub mod Shelving

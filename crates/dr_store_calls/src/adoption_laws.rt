@@ -1,7 +1,7 @@
 //! What an adoption makes of the book.
 ghost use Rattle.dr_store_calls.specs.AdoptionLaws.{AdoptedLedgersAreOfTheNext, AdoptionsAdopt};
-ghost use Rattle.dr_store_calls.specs.AdoptionLaws.{AdoptionsKeepMarkAndSeal, OwnersAreOne};
-ghost use Rattle.dr_store_calls.specs.AdoptionLaws.{EmptyTablesAreOwnedByNone};
+ghost use Rattle.dr_store_calls.specs.AdoptionLaws.{AdoptionsKeepMarkAndSeal, AdoptionsKeepTheSeal};
+ghost use Rattle.dr_store_calls.specs.AdoptionLaws.{EmptyTablesAreOwnedByNone, OwnersAreOne};
 
 /// Where arrivals and done rows leave, and the line of an adoption stands in the journal, the book
 /// is that after an adoption.
@@ -28,4 +28,9 @@ pub fn empty_tables_are_owned_by_none()
 /// have left its tables.
 pub fn adoptions_keep_mark_and_seal()
     ensures { AdoptionsKeepMarkAndSeal }
+{}
+
+/// The lines that have left the tables go as far after an adoption as before it.
+pub fn adoptions_keep_the_seal()
+    ensures { AdoptionsKeepTheSeal }
 {}

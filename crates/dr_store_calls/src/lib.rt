@@ -20,6 +20,7 @@ mod owning;
 pub mod past_laws;
 mod plan;
 mod receiving;
+pub mod seal_laws;
 mod sealing;
 mod settling;
 mod shelving;

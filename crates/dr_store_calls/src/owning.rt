@@ -1,7 +1,8 @@
 //! What site has for a plan: its SHA-256, right behind it the mark of a file of data sets, or
 //! nothing, and behind that how far lines go that have left the tables, or nothing.
 ghost use Rattle.std.specs.Prelude.{◌≡◌, ◌↔◌, IfOk, IsTrue, List, MatchOption, ℕ};
-ghost use Rattle.dr_store_calls.specs.Owners.{IsMark, IsMarkAndSeal, IsPlanWith, IsSealText};
+ghost use Rattle.dr_store_calls.specs.Owners.{IsMark, IsMarkAndSeal, IsPlanWith};
+ghost use Rattle.dr_store_sealed.specs.InTables.{IsSealText};
 
 use std::alloc::{AllocError, Global};
 

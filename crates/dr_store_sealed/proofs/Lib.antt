@@ -1,4 +1,5 @@
 pub mod FileLemmas
+pub mod InTables
 pub mod LawLemmas
 pub mod Onward
 pub mod Prefixes

@@ -2,6 +2,7 @@
 use Rattle.std.specs.Prelude.{◌≡◌, ℕ, ◌≤◌, List, [], ◌∷◌, ◌++◌, All}
 use Rattle.dr_store_sealed.specs.declared.seal.Seal.{Seal}
 use Rattle.dr_store_sealed.specs.Files.{EndsAs, HasLines}
+use Rattle.dr_store_sealed.specs.InTables.{IsOfCode, IsSealText, bytes_of_seal, seal_said}
 use Rattle.dr_store_sealed.specs.Lines.{IsOneLine, bytes_of, next_chain}
 use Rattle.dr_store_sealed.specs.Seals.{IsSealedBy, first_seal, full, next_seal, seal_after, turned}
 
@@ -57,3 +58,9 @@ HaveOnePast =
     (content : List ℕ → List ℕ) (lines others : List (List ℕ)) (seal : Seal)
     → AreOfOneText content first_seal.chain lines → AreOfOneText content first_seal.chain others
     → IsSealedBy lines seal → IsSealedBy others seal → lines ≡ others
+
+-- What the tables have for a seal is a text of one, and says just that seal.
+abbrev pub SealsAreReadBack : Type 0
+SealsAreReadBack =
+    (seal : Seal) → IsOfCode seal
+    → IsSealText (bytes_of_seal seal) × (seal_said (bytes_of_seal seal) ≡ seal)

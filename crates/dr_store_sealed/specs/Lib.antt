@@ -1,5 +1,6 @@
 pub mod Files
 pub mod Held
+pub mod InTables
 pub mod Laws
 pub mod Lines
 pub mod Refusals

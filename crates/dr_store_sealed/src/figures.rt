@@ -2,6 +2,7 @@
 ghost use Rattle.std.specs.Prelude.{◌≡◌, ◌∷◌, ◌++◌, [], List, ℕ, codes, length, replicate};
 ghost use Rattle.hex.specs.Hex.{encode_lower};
 ghost use Rattle.sha2.specs.Sha256.{sha256};
+ghost use Rattle.dr_store_sealed.specs.InTables.{bytes_of_seal, seal_said};
 ghost use Rattle.dr_store_sealed.specs.Lines.{IsOneLine, bytes_of};
 ghost use Rattle.dr_store_sealed.specs.Seals.{first_seal, full, next_seal, seal_after};
 
@@ -32,4 +33,13 @@ pub fn where_the_next_file_begins()
 pub fn what_is_a_line()
     ensures empty { IsOneLine [] }
     ensures two { IsOneLine (codes "a\nb") → ⊥ }
+{}
+
+/// What tables have for the seal of 258 lines, the last of which ends at byte 135 of file 1, and
+/// which seal they say without any bytes.
+pub fn a_seal_in_tables()
+    ensures bytes { bytes_of_seal
+        (record { count = 258; chain = replicate 32 7; number = 1; offset = 135 })
+        ≡ (2 ∷ 1 ∷ replicate 6 0) ++ replicate 32 7 ++ (1 ∷ replicate 7 0) ++ (135 ∷ replicate 7 0) }
+    ensures none { seal_said [] ≡ first_seal }
 {}

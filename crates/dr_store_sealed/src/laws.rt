@@ -1,6 +1,7 @@
 //! What follows from the definitions alone.
 ghost use Rattle.dr_store_sealed.specs.Laws.{EndsInItsSeal, GoOn, HaveOnePast, NextFileTakes};
-ghost use Rattle.dr_store_sealed.specs.Laws.{SealsAreOne, SpansGoOn, LinesAreReadBack};
+ghost use Rattle.dr_store_sealed.specs.Laws.{LinesAreReadBack, SealsAreOne, SealsAreReadBack};
+ghost use Rattle.dr_store_sealed.specs.Laws.{SpansGoOn};
 
 /// Lines have one seal.
 pub fn seals_are_one()
@@ -32,4 +33,9 @@ pub fn a_file_ends_in_its_seal()
 /// Where no two texts have one SHA-256, a seal is that of one list of lines.
 pub fn seals_have_one_past()
     ensures { HaveOnePast }
+{}
+
+/// What the tables have for a seal says just that seal.
+pub fn seals_are_read_back()
+    ensures { SealsAreReadBack }
 {}

@@ -1,37 +1,21 @@
-use Rattle.std.proofs.Common.{◌≡◌, Option, Some, rules, subst}
+use Rattle.std.proofs.Common.{◌≡◌, ◌+◌, inl, refl, subst}
 use Rattle.sqlite.specs.Held.{state}
-use Rattle.sqlite.specs.Tree.{Trees}
-use Rattle.dr_store_writes.specs.Effects.{IsSiteOf}
-use Rattle.dr_store_reads.specs.Queries.{IsOwnerOf}
-use Rattle.dr_store_reads.specs.declared.finding.Owner.{Owner}
-use Rattle.dr_store_calls.proofs.Calls.{asked_looked}
-use Rattle.dr_store_calls.proofs.Sealings.{looked_failed, looked_sealed, looked_still}
+use Rattle.dr_ledger.specs.declared.fault.LedgerFault.TheVariants as fault
+use Rattle.dr_store_calls.specs.Calling.{Nothing}
+use Rattle.dr_store_calls.specs.Sealing.{Sealed}
+use Rattle.dr_store_calls.proofs.Sealings.{not_sealed, where_ok}
 use Rattle.dr_store_calls.proofs.sealing.seal.Goals as goal
 
-pub returns-in-Ok-Some-clause-sealed : goal.returns-in-Ok-Some-clause-sealed
-returns-in-Ok-Some-clause-sealed g c n =
-    let part = c.args.site.now in
-    let owner = c.in-Ok-Some.owner in
-    let old = state g.S.Store c.args.conn.now in
-    let mid = state g.S.Store c.find_owner.new.conn in
-    let new = state g.S.Store c.seal_for.new.conn in
-    let Shows : Trees → Option Owner → Type 0 = λ base. IsOwnerOf base in
-    let is : c.in-Ok-Some.field-0 ≡ Some owner = search rules in
-    looked_sealed n part c.args.seal.now old mid new Shows c.in-Ok-Some.field-0 c.seal_for.result (IsSiteOf owner.node owner.plan) (asked_looked n part _ old mid Shows c.in-Ok-Some.ensures.asked) (c.seal_for.ensures.sealed n)
-    (λ db shown. subst (IsOwnerOf db) is shown)
+pub returns-then-not-counts_up_to-clause-sealed : goal.returns-then-not-counts_up_to-clause-sealed
+returns-then-not-counts_up_to-clause-sealed g c =
+    not_sealed c.args.n c.args.site.now c.args.last.now (state g.S.Store c.args.conn.now) Nothing fault.Store (inl refl)
 
-pub returns-in-Ok-None-clause-sealed : goal.returns-in-Ok-None-clause-sealed
-returns-in-Ok-None-clause-sealed g c n =
-    let part = c.args.site.now in
-    let old = state g.S.Store c.args.conn.now in
-    let new = state g.S.Store c.find_owner.new.conn in
-    let Shows : Trees → Option Owner → Type 0 = λ base. IsOwnerOf base in
-    looked_still n part c.args.seal.now old new Shows c.in-Ok-None.field-0 (asked_looked n part _ old new Shows c.in-Ok-None.ensures.asked)
+pub returns-clause-sealed : goal.returns-clause-sealed
+returns-clause-sealed g c =
+    let counts = c.counts_up_to.ensures.0 c.if-not-counts_up_to.false in
+    subst (λ n. Sealed n c.args.site.now c.args.last.now c.seal_to.result (state g.S.Store c.args.conn.now) (state g.S.Store c.seal_to.new.conn) Nothing) counts
+    c.seal_to.ensures.sealed
 
-pub returns-in-Err-clause-sealed : goal.returns-in-Err-clause-sealed
-returns-in-Err-clause-sealed g c n =
-    let part = c.args.site.now in
-    let old = state g.S.Store c.args.conn.now in
-    let new = state g.S.Store c.find_owner.new.conn in
-    let Shows : Trees → Option Owner → Type 0 = λ base. IsOwnerOf base in
-    looked_failed n part c.args.seal.now old new Shows c.in-Err.fault (asked_looked n part _ old new Shows c.in-Err.ensures.asked)
+pub returns-clause-counted : goal.returns-clause-counted
+returns-clause-counted g c =
+    where_ok c.seal_to.result (c.args.last.now.count + 1 ≡ c.args.n) (c.counts_up_to.ensures.0 c.if-not-counts_up_to.false)
