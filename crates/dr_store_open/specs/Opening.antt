@@ -40,7 +40,7 @@ use Rattle.dr_store_open.specs.declared.fault.OpeningFault.TheVariants as openin
 use Rattle.dr_store_open.specs.declared.finding.FoundTables.{FoundTables}
 use Rattle.dr_store_open.specs.DataSets.{IsOwn}
 use Rattle.dr_store_open.specs.Faults.{IsOfData}
-use Rattle.dr_store_open.specs.Places.{HasOwnOn, IsPlaceOf, IsPlacedBy, seen_on}
+use Rattle.dr_store_open.specs.Places.{HasOwnOn, IsAt, IsPlaceOf, IsPlacedBy, names_at, seen_on}
 use Rattle.dr_store_open.specs.Renewing.{IsMadeBy, KeepsRows}
 
 -- ---- what is tested of rows
@@ -277,6 +277,13 @@ PlacesAreOne =
     → place ≡ beside
 
 module _ {D : Type 0} (g : Ghosts D) where
+  -- the cells of a shelf name places just where the data sets are in a file
+  abbrev pub ShelvesAreInTheirPlaces : Type 0
+  ShelvesAreInTheirPlaces =
+      (place : DataPlace) (shelf : LedgerShelf D g)
+      → IsAt place shelf
+      → named_on shelf ≡ names_at place
+
   -- where the tables have a mark, a ledger's shelf is over a file that has it, and over no other
   abbrev pub MarkedTablesHaveTheirFile : Type 0
   MarkedTablesHaveTheirFile =
@@ -298,7 +305,8 @@ module _ {D : Type 0} (g : Ghosts D) where
       × (map.get (items_of db) uid ≡ Some (instance_of item))
 
 -- A site's ledger isn't taken for another's: where its data sets are in a file, whatever they are;
--- where they are in rows, if each is that of its item.
+-- where they are in rows, if each is that of its item. Nor is one that has its data sets in rows
+-- refused for a file of data sets: for one that is missing, that is there, or that is in use.
 pub record LedgersAreTheirSites : Type 0 where
   pub marked : (n : ℕ) (part : Part) (db : Database) (mark : List ℕ) (said : DataMark)
       → HasLedgerOf n part db
@@ -309,6 +317,18 @@ pub record LedgersAreTheirSites : Type 0 where
       → HasLedgerOf n part db
       → ((uid : Text) → IsOwn uid db.trees)
       → IsWhy part db opening.OtherSite → ⊥
+  pub lost : (n : ℕ) (part : Part) (db : Database)
+      → HasLedgerOf n part db
+      → IsOwnedWith [] part db.trees
+      → IsWhy part db opening.NoData → ⊥
+  pub there : (n : ℕ) (part : Part) (db : Database)
+      → HasLedgerOf n part db
+      → IsOwnedWith [] part db.trees
+      → IsWhy part db opening.DataIsThere → ⊥
+  pub in_use : (n : ℕ) (part : Part) (db : Database)
+      → HasLedgerOf n part db
+      → IsOwnedWith [] part db.trees
+      → IsWhy part db opening.InUse → ⊥
 
 -- what a database has is one node's ledger, under one plan, and its next line has one number
 abbrev pub LedgersAreOne : Type 0
