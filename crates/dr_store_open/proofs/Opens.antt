@@ -121,20 +121,22 @@ pub head_again : {X E : Type 0} (shown : X → List ℕ) (disk : Option X) (r : 
 head_again shown disk (Ok made) has same = subst (λ d. MatchOption d ⊥ (λ it. HasSomeHead (shown it))) (sym same) has
 head_again shown disk (Err fault) has same = tt
 
+-- a shelf in rows is over no file
+pub no_file : {X : Type 0} (made : Option X) → IfSome made (λ disk. Unit {0})
+no_file None = tt
+no_file (Some disk) = tt
+
 -- ---- a shelf
 
 module _ {D : Type 0} {g : Ghosts D} where
-  -- a shelf in rows is over no file
-  pub no_file : {X : Type 0} (made : Option X) → IfSome made (λ disk. Unit {0})
-  no_file None = tt
-  no_file (Some disk) = tt
-
   -- the shelf over the file that was made, if one was
-  pub shows_made : {X E : Type 0} (shown : X → List ℕ) (made : Option X) (disk : X) (shelf : LedgerShelf D g)
-      → IfSome made (λ it. Ok {E = E} disk ≡ Ok it) → ShowsFile (shown disk) shelf
+  pub shows_made : {X : Type 0} (shown : X → List ℕ) (made : Option X) (disk : X) (shelf : LedgerShelf D g)
+      → IfSome made (λ it. (let r : Result X OpeningFault = Ok disk in r) ≡ Ok it) → ShowsFile (shown disk) shelf
       → IfSome made (λ it. ShowsFile (shown it) shelf)
   shows_made shown None disk shelf same shows = tt
-  shows_made shown (Some it) disk shelf same shows = subst (λ d. ShowsFile (shown d) shelf) (let is : disk ≡ it = cc in is) shows
+  shows_made shown (Some it) disk shelf same shows =
+      let is : disk ≡ it = cc in
+      subst (λ d. ShowsFile (shown d) shelf) is shows
 
   -- a shelf whose cells name places shows the head of that file
   shown_head : {X : Type 0} (shown : X → List ℕ) (made : Option X) (shelf : LedgerShelf D g) → named_on shelf ≡ true

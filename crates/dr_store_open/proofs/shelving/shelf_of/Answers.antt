@@ -18,4 +18,4 @@ returns-in-InFile-clause-used g c clean are =
     (c.shelf_in_file.ensures.file clean)
 
 pub returns-in-InRows-clause-shows : goal.returns-in-InRows-clause-shows
-returns-in-InRows-clause-shows g c = no_file {g = g.F.Disk.Disk} c.args.made
+returns-in-InRows-clause-shows g c = no_file c.args.made
