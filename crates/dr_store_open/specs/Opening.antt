@@ -30,7 +30,8 @@ use Rattle.dr_store_changes.specs.Writing.{IsReady}
 use Rattle.dr_store_data.specs.declared.mark.DataMark.{DataMark}
 use Rattle.dr_store_data.specs.Heads.{HasHead, IsMarkOf}
 use Rattle.dr_store_sealed.specs.InTables.{seal_said}
-use Rattle.dr_store_calls.specs.Owners.{IsMark, IsMarkAndSeal, IsOwnedBy, IsOwnedSo, IsOwnedWith, seal_in}
+use Rattle.dr_store_calls.specs.Owners.{IsMark, IsMarkAndSeal, IsOwnedBy, IsOwnedSo, IsOwnedWith}
+use Rattle.dr_store_calls.specs.Owners.{seal_in}
 use Rattle.dr_store_calls.specs.Calling.{IsKept}
 use Rattle.dr_store_audit.specs.Found.{HoldTogether}
 use Rattle.dr_store_audit.specs.Older.{IsOlder}

@@ -74,8 +74,8 @@ fn find_tested<S: Alter>(
 }
 
 /// What the tables have, if the file has those of a ledger of this site: its tables are just a
-/// ledger's, the node and the plan are the site's, and all rows are what the journal's lines make,
-/// which are a history of that ledger. Its data sets aren't looked at.
+/// ledger's, the node and the plan are the site's, no line has left them, and all rows are what the
+/// journal's lines make, which are a history of that ledger. Its data sets aren't looked at.
 ///
 /// Errors: Store, Memory.
 pub fn find<S: Alter>(
