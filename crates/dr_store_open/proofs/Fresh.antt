@@ -126,7 +126,7 @@ bad_tables_are_none = record {
   sealed = λ part other db mark seal owned some n is.
       let says : (seal_in db.trees).count ≡ (seal_said seal).count =
       ap (λ (s : Seal). s.count) (seals_are_read mark seal other db.trees owned) in
-      let none = is.lines in
+      let none : (seal_in db.trees).count ≡ 0 = is.lines in
       omega (arith, says, none, some);
   renumbered = λ part db note rest all n is.
       let up : CountUp 1 ((2, note) ∷ rest) = subst (CountUp 1) all is.agreed.hold.numbered in
