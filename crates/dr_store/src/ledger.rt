@@ -79,6 +79,8 @@ impl<S: Alter, B: Shelf> SqlLedger<S, B> {
         ensures site { result.site ≡ site }
         ensures conn { result.conn ≡ conn }
         ensures shelf { result.shelf ≡ shelf }
+        ensures next { result.next ≡ next }
+        ensures moment { result.moment ≡ moment }
         ensures failures { result.failures ≡ 0 }
     {
         SqlLedger {

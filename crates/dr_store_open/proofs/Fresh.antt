@@ -21,8 +21,10 @@ use Rattle.dr_store_schema.proofs.WhatIsWritten.{empty_tables_are_empty, no_entr
 use Rattle.dr_store_writes.specs.Effects.{IsSiteOf}
 use Rattle.dr_store_reads.specs.declared.finding.Print.{Print}
 use Rattle.dr_store_lists.specs.declared.listing.JournalRow.{JournalRow}
-use Rattle.dr_store_calls.specs.Owners.{IsMark, IsMarkAndSeal, IsOwnedBy}
-use Rattle.dr_store_calls.proofs.Owners.{behind_of, marks_are_one, one_owner, owned_by_none}
+use Rattle.dr_store_sealed.specs.declared.seal.Seal.{Seal}
+use Rattle.dr_store_sealed.specs.InTables.{seal_said}
+use Rattle.dr_store_calls.specs.Owners.{IsMark, IsMarkAndSeal, IsOwnedBy, IsOwnedSo, seal_in}
+use Rattle.dr_store_calls.proofs.Owners.{behind_of, marks_are_one, none_has_left, one_owner, owned_by_none, seals_are_read}
 use Rattle.dr_store_audit.specs.Journal.{CountUp}
 use Rattle.dr_store_open.specs.Opening.{BadTablesAreNone, HasLedgerOf, LedgersAreOne}
 use Rattle.dr_store_open.specs.Opening.{NewLedgersAreLedgers, new_trees}
@@ -65,11 +67,15 @@ module _ (part : Part) (mark : List ℕ) where
       → is_some (map.get (map.empty {X = Print} {R = text_cmp}) uid) ≡ false
   no_print uid = ap is_some (map.get-empty text_cmp uid)
 
+  own : length part.digest ≡ 32 → IsMark mark → IsOwnedSo mark [] part (new_trees part mark)
+  own long marked =
+      (part.digest ++ mark, record { long = long; marked = marked; sealed = inl refl; is = ap (λ x. part.digest ++ x) (sym (append-nil mark)) }, refl)
+
   new_ledger_is : length part.digest ≡ 32 → IsMark mark → HasLedgerOf 1 part (record { schema = tables; trees = new_trees part mark })
   new_ledger_is long marked = record {
     schema = refl;
-    owned =
-        (mark, ([], (part.digest ++ mark, record { long = long; marked = marked; sealed = inl refl; is = ap (λ x. part.digest ++ x) (sym (append-nil mark)) }, refl)));
+    owned = (mark, ([], own long marked));
+    lines = sym (none_has_left mark part (new_trees part mark) (own long marked));
     agreed = record {
       next = ap (λ (b : Book). length b.lines + 1) (sym book);
       below = tt;
@@ -117,6 +123,11 @@ bad_tables_are_none = record {
   unowned = λ part db none n is. owned_by_none part db.trees none is.owned;
   unmarked = λ part db node digest behind site long other n is.
       no_owner part db node digest behind site long other is.owned;
+  sealed = λ part other db mark seal owned some n is.
+      let says : (seal_in db.trees).count ≡ (seal_said seal).count =
+      ap (λ (s : Seal). s.count) (seals_are_read mark seal other db.trees owned) in
+      let none : (seal_in db.trees).count ≡ 0 = is.lines in
+      omega (arith, says, none, some);
   renumbered = λ part db note rest all n is.
       let up : CountUp 1 ((2, note) ∷ rest) = subst (CountUp 1) all is.agreed.hold.numbered in
       let same : 2 ≡ 1 = up.0 in

@@ -28,7 +28,7 @@ use Rattle.dr_store_changes.specs.Writing.{CountTo, numbers_in}
 use Rattle.dr_store_calls.specs.Calling.{IsLedgerOf}
 use Rattle.dr_store_calls.specs.Owners.{IsOwnedBy}
 use Rattle.dr_store_audit.specs.Journal.{CountUp}
-use Rattle.dr_store_open.specs.Opening.{HasLedgerOf, IsAgreed}
+use Rattle.dr_store_open.specs.Opening.{HasLedgerOf, HaveAllLines, IsAgreed}
 
 -- ---- the numbers of lines, whatever is told of each
 
@@ -121,8 +121,8 @@ print_there db uid = there whole_print_in (db 3) uid ∙ sym (there (λ r. (whol
 -- ---- both
 
 -- what is found to be a ledger's is kept as one
-pub found_is_kept : (n : ℕ) (part : Part) (db : Trees) → IsAgreed n part db → IsOwnedBy part db → IsLedgerOf [] n part db
-found_is_kept n part db all mine =
+pub found_is_kept : (n : ℕ) (part : Part) (db : Trees) → IsAgreed n part db → IsOwnedBy part db → HaveAllLines db → IsLedgerOf [] n part db
+found_is_kept n part db all mine none_left =
     let notes = map.entries (notes_of db) in
     let many : n ≡ 1 + length notes =
     (let next = all.next in
@@ -131,6 +131,7 @@ found_is_kept n part db all mine =
     omega (arith, next, lines, numbers)) in
     record {
       owned = mine;
+      counted = sym none_left;
       together = λ uid. sym (key_there db uid) ∙ all.hold.together uid ∙ print_there db uid;
       numbered = record {
         below = all.below;
@@ -160,4 +161,4 @@ kept_agrees n part db l =
     }
 
 pub kept_is_found : (n : ℕ) (part : Part) (d : Database) → d.schema ≡ tables → IsLedgerOf [] n part d.trees → HasLedgerOf n part d
-kept_is_found n part d schema l = record { schema = schema; owned = l.owned; agreed = kept_agrees n part d.trees l }
+kept_is_found n part d schema l = record { schema = schema; owned = l.owned; lines = sym l.counted; agreed = kept_agrees n part d.trees l }

@@ -1,6 +1,6 @@
 -- A shelf that was opened, and a ledger with it.
 use Rattle.std.proofs.Common.{◌≡◌, ◌≢◌, ◌∙◌, ◌⊎◌, ℕ, Bool, true, false, true≢false, IsTrue, List, [], length, Some, None, Option, Result, Ok, Err, inl, inr, refl, sym, ap, subst, is_some, arith}
-use Rattle.std.specs.Prelude.{All, IfErr, IfOk, MatchResult, OnOk}
+use Rattle.std.specs.Prelude.{All, IfErr, IfOk, IfSome, MatchOption, MatchResult, OnOk}
 use Rattle.std.specs.FinMap as map
 use Rattle.std.proofs.lemmas.Bool.{cases_Bool}
 use Rattle.sqlite.specs.Effect.{Database}
@@ -29,6 +29,7 @@ use Rattle.dr_store_calls.specs.Calling.{IsKept, IsLedgerOf}
 use Rattle.dr_store.specs.Owning.{HaveOwn}
 use Rattle.dr_store_audit.specs.Older.{IsOlder}
 use Rattle.dr_store_open.specs.declared.data.Keeping.{Keeping}
+use Rattle.dr_store_open.specs.declared.data.Keeping.TheVariants as wanted
 use Rattle.dr_store_open.specs.declared.data.OpenedLedger.{OpenedLedger}
 use Rattle.dr_store_open.specs.declared.data.DataPlace.{DataPlace}
 use Rattle.dr_store_open.specs.declared.data.DataPlace.TheVariants as put
@@ -37,9 +38,9 @@ use Rattle.dr_store_open.specs.declared.fault.OpeningFault.TheVariants as openin
 use Rattle.dr_store_open.specs.declared.finding.FoundTables.{FoundTables}
 use Rattle.dr_store_open.specs.DataSets.{AreListed, AreOwnUnder, IsOwn}
 use Rattle.dr_store_open.specs.Faults.{IsOfData}
-use Rattle.dr_store_open.specs.Places.{HasOwnOn, IsAt, IsFileWith, IsPlaceOf, IsPlacedBy, names_in, seen_on}
+use Rattle.dr_store_open.specs.Places.{HasOwnOn, HasSomeHead, IsAt, IsBegun, IsFileWith, IsPlaceOf, IsPlacedBy, ShowsFile, names_in, seen_on}
 use Rattle.dr_store_open.specs.Renewing.{KeepsRows}
-use Rattle.dr_store_open.specs.Opening.{AreOf, HasLedgerOf, HasNewLedger, IsBlank, LedgersAreTheirSites, IsBroughtOver, IsLedgerFound, IsLedgerOpened, IsNext, IsWhy, IsWhyNot, IsWholeOpened, LeavesOldOrCommitted, StaysAsFound, StaysReady}
+use Rattle.dr_store_open.specs.Opening.{AreOf, HasLedgerOf, HasNewLedger, IsBlank, LedgersAreTheirSites, IsBroughtOver, IsLedgerFound, IsLedgerOpened, IsNext, IsWhy, IsWhyNot, IsWholeOpened, LeavesOldOrCommitted, ShelvesAreInTheirPlaces, StaysAsFound, StaysReady}
 use Rattle.dr_store_open.proofs.Blank.{blank_no_older}
 use Rattle.dr_store_open.proofs.Chains.{looks_then}
 use Rattle.dr_store_open.proofs.Shelved.{all_own, all_read, names, names_apart}
@@ -83,6 +84,9 @@ pub their_sites : LedgersAreTheirSites
 their_sites = record {
   marked = λ n part db mark said has owned is why. in_file part db.trees mark said owned is (why.0 refl n has).0;
   own = λ n part db has own why. (why.0 refl n has).1 own;
+  lost = λ n part db has mine why. why.1 tt has.schema mine;
+  there = λ n part db has mine why. why.1 tt has.schema mine;
+  in_use = λ n part db has mine why. why.1 tt has.schema mine;
 }
 
 -- what a test of the data sets in rows tells
@@ -102,9 +106,46 @@ not_others part db prints place (Err fault) are together says rows beside tested
   λ it mine. beside it,
 )
 
+-- ---- a file that was made
+
+-- a file that was begun has a head
+pub begun_head : {X : Type 0} (shown : X → List ℕ) (leaves : X → List ℕ → Type 0) (said : DataMark) (disk : Option X)
+    → MatchOption disk ⊥ (λ it. IsBegun said (shown it) (leaves it)) → MatchOption disk ⊥ (λ it. HasSomeHead (shown it))
+begun_head shown leaves said None is = is
+begun_head shown leaves said (Some it) is = (said.mark, is.0)
+
+-- it is the one that was handed on
+pub head_again : {X E : Type 0} (shown : X → List ℕ) (disk : Option X) (r : Result (Bool × Option X) E)
+    → MatchOption disk ⊥ (λ it. HasSomeHead (shown it)) → IfOk r (λ made. made.1 ≡ disk)
+    → IfOk r (λ made. MatchOption made.1 ⊥ (λ it. HasSomeHead (shown it)))
+head_again shown disk (Ok made) has same = subst (λ d. MatchOption d ⊥ (λ it. HasSomeHead (shown it))) (sym same) has
+head_again shown disk (Err fault) has same = tt
+
+-- a shelf in rows is over no file
+pub no_file : {X : Type 0} (made : Option X) → IfSome made (λ disk. Unit {0})
+no_file None = tt
+no_file (Some disk) = tt
+
 -- ---- a shelf
 
 module _ {D : Type 0} {g : Ghosts D} where
+  -- the shelf over the file that was made, if one was
+  pub shows_made : {X : Type 0} (shown : X → List ℕ) (made : Option X) (disk : X) (shelf : LedgerShelf D g)
+      → IfSome made (λ it. (let r : Result X OpeningFault = Ok disk in r) ≡ Ok it) → ShowsFile (shown disk) shelf
+      → IfSome made (λ it. ShowsFile (shown it) shelf)
+  shows_made shown None disk shelf same shows = tt
+  shows_made shown (Some it) disk shelf same shows =
+      let is : disk ≡ it = cc in
+      subst (λ d. ShowsFile (shown d) shelf) is shows
+
+  -- a shelf whose cells name places shows the head of that file
+  shown_head : {X : Type 0} (shown : X → List ℕ) (made : Option X) (shelf : LedgerShelf D g) → named_on shelf ≡ true
+      → MatchOption made ⊥ (λ it. HasSomeHead (shown it)) → IfSome made (λ it. ShowsFile (shown it) shelf)
+      → HasSomeHead (seen_on shelf)
+  shown_head shown None shelf named has shows = absurd has
+  shown_head shown (Some disk) (Rows it) named has shows = absurd (true≢false (sym named))
+  shown_head shown (Some disk) (File it) named has shows = subst HasSomeHead (sym shows) has
+
   pub file_at : (said : DataMark) (list : List Extent) (shelf : LedgerShelf D g) → IsFileWith said list shelf → IsAt (put.InFile said) shelf
   file_at said list (Rows it) is = absurd is
   file_at said list (File it) is = is.0
@@ -112,6 +153,12 @@ module _ {D : Type 0} {g : Ghosts D} where
   head_at : (said : DataMark) (shelf : LedgerShelf D g) → IsAt (put.InFile said) shelf → (named_on shelf ≡ true) × (IsCleanOn shelf → HasHead said.mark (seen_on shelf))
   head_at said (Rows it) is = absurd is
   head_at said (File it) is = (refl, is.1)
+
+  pub in_their_places : ShelvesAreInTheirPlaces g
+  in_their_places put.InRows (Rows it) is = refl
+  in_their_places put.InRows (File it) is = absurd is
+  in_their_places (put.InFile said) (Rows it) is = absurd is
+  in_their_places (put.InFile said) (File it) is = refl
 
   -- the file that the tables name
   pub their_file : (part other : Part) (db : Trees) (mark : List ℕ) (said : DataMark) (shelf : LedgerShelf D g)
@@ -278,6 +325,13 @@ module _ {D : Type 0} {g : Ghosts D} where
   is_made made keeping opened (Ok it) was m = m.1 was
   is_made made keeping opened (Err fault) was m = tt
 
+  pub made_shows : {X : Type 0} (shown : X → List ℕ) (made : Bool) (keeping : Keeping) (disk : Option X) (opened : OpenedLedger D g) (r : Result (OpenedLedger D g) OpeningFault)
+      → IfSome disk (λ d. ShowsFile (shown d) opened.shelf)
+      → MatchResult r (λ it. (it ≡ opened) × (made ≡ true → (it.next ≡ 1) × (named_on it.shelf ≡ names_in keeping))) (λ fault. (fault ≡ opening.OtherSite) × (made ≡ true))
+      → IfOk r (λ it. IfSome disk (λ d. ShowsFile (shown d) it.shelf))
+  made_shows shown made keeping disk opened (Ok it) shows m = subst (λ (o : OpenedLedger D g). IfSome disk (λ d. ShowsFile (shown d) o.shelf)) (sym m.0) shows
+  made_shows shown made keeping disk opened (Err fault) shows m = tt
+
   pub made_why : (made : Bool) (keeping : Keeping) (opened : OpenedLedger D g) (r : Result (OpenedLedger D g) OpeningFault)
       → MatchResult r (λ it. (it ≡ opened) × (made ≡ true → (it.next ≡ 1) × (named_on it.shelf ≡ names_in keeping))) (λ fault. (fault ≡ opening.OtherSite) × (made ≡ true))
       → IfErr r (λ fault. fault ≢ opening.DataIsThere)
@@ -358,6 +412,19 @@ module _ {D : Type 0} {g : Ghosts D} where
       | inr stood ↦ absurd ((stays stood).0 blank)
     ]
     wanted_of stays keeping (Err fault) m = tt
+
+    pub begun_of : {X : Type 0} (shown : X → List ℕ) (disk : Option X)
+        → (made ≡ false → (IsBlank old.now.schema → ⊥) × ((IsOlder old.now.schema → ⊥) → StaysAsFound old mid))
+        → (keeping : Keeping) → (keeping ≡ wanted.InFile → made ≡ true → MatchOption disk ⊥ (λ it. HasSomeHead (shown it)))
+        → (r : Result (OpenedLedger D g) OpeningFault)
+        → (made ≡ true → IfOk r (λ it. (it.next ≡ 1) × (named_on it.shelf ≡ names_in keeping)))
+        → IfOk r (λ it. IfSome disk (λ d. ShowsFile (shown d) it.shelf))
+        → IfOk r (λ it. IsBlank old.now.schema → keeping ≡ wanted.InFile → HasSomeHead (seen_on it.shelf))
+    begun_of shown disk stays keeping begun (Ok it) m shows = λ blank file. elim (cases_Bool made) [
+      | inl was ↦ shown_head shown disk it.shelf ((m was).1 ∙ ap names_in file) (begun file was) shows
+      | inr stood ↦ absurd ((stays stood).0 blank)
+    ]
+    begun_of shown disk stays keeping begun (Err fault) m shows = tt
 
     pub refused_of : (old.now.schema ≡ tables → (made ≡ false) × (mid ≡ old))
         → (r : Result (OpenedLedger D g) OpeningFault) → IsWholeOpened (made ≡ false) part r mid new

@@ -19,9 +19,11 @@ use Rattle.dr_store_writes.specs.Effects.{IsSiteOf}
 use Rattle.dr_store_reads.specs.Queries.{Asked, HasTables}
 use Rattle.dr_store_data.specs.declared.mark.DataMark.{DataMark}
 use Rattle.dr_store_data.specs.Heads.{IsMarkOf}
-use Rattle.dr_store_calls.specs.Owners.{IsMark, IsOwnedBy, IsPlanWith}
+use Rattle.dr_store_sealed.specs.declared.seal.Seal.{Seal}
+use Rattle.dr_store_sealed.specs.InTables.{seal_said}
+use Rattle.dr_store_calls.specs.Owners.{IsMark, IsOwnedBy, IsPlanWith, seal_in}
 use Rattle.dr_store_calls.specs.Calling.{IsKept, IsLedgerOf}
-use Rattle.dr_store_calls.proofs.Owners.{marks_are_one}
+use Rattle.dr_store_calls.proofs.Owners.{marks_are_one, seals_are_read}
 use Rattle.dr_store_lists.specs.Lists.{IsJournal, line_of, note_in}
 use Rattle.dr_store_lists.specs.declared.listing.JournalRow.{JournalRow}
 use Rattle.dr_store_audit.specs.Found.{HoldTogether}
@@ -33,7 +35,7 @@ use Rattle.dr_store_open.specs.declared.finding.FoundTables.{FoundTables}
 use Rattle.dr_store_open.specs.Places.{IsPlaceIn, IsPlaceOf}
 use Rattle.dr_store_open.specs.Renewing.{KeepsRows}
 use Rattle.dr_store_open.proofs.Kept.{found_is_kept}
-use Rattle.dr_store_open.specs.Opening.{AreOf, AreTested, HasLedgerOf, HasNewLedger, HasNoLedgerOf, IfFound, IfNotFound, IsAgreed, IsAgreedIf, IsBroughtOver, IsLedgerFound, IsNext, IsLedgerOpened, IsWholeIf, LeavesFile, LeavesOldOrCommitted, OnlyLooks, PlacesAreOne, StaysAsFound}
+use Rattle.dr_store_open.specs.Opening.{AreOf, AreTested, HasLedgerOf, HasNewLedger, HasNoLedgerOf, HaveAllLines, IfFound, IfNotFound, IsAgreed, IsAgreedIf, IsBroughtOver, IsLedgerFound, IsNext, IsLedgerOpened, IsWholeIf, LeavesFile, LeavesOldOrCommitted, OnlyLooks, PlacesAreOne, StaysAsFound}
 
 -- ---- the lines' numbers
 
@@ -87,20 +89,34 @@ not_agreed part db notes next journal after apart n is =
     (subst (HoldTogether n part db) (sym journal.notes) is.hold))
 
 pub whole_if : (part : Part) (place : DataPlace) (db : Trees) (found : Option FoundTables)
-    → IsAgreedIf part place db found → IsPlaceOf part db place → IsWholeIf part db found
-whole_if part place db None agrees says = λ n is mine. agrees n is
-whole_if part place db (Some found) agrees says = agrees says
+    → IsAgreedIf part place db found → IsPlaceOf part db place → HaveAllLines db → IsWholeIf part db found
+whole_if part place db None agrees says lines = λ n is mine all. agrees n is
+whole_if part place db (Some found) agrees says lines = (agrees says, lines)
 
 -- ---- where the data sets are
+
+-- what a mark says, where its seal counts no line
+pub under_seal : (mark : List ℕ) (None_left : Type 0) (place : Option DataPlace)
+    → None_left → MatchOption place (IsMark mark → ⊥) (IsPlaceIn mark)
+    → MatchOption place (IsMark mark → None_left → ⊥) (λ p. IsPlaceIn mark p × None_left)
+under_seal mark None_left None lines none = λ marked all. none marked
+under_seal mark None_left (Some place) lines is = (is, lines)
 
 -- what the owner's row says of the place
 pub placed : (part : Part) (db : Trees) (mark seal cell : List ℕ) (place : Option DataPlace)
     → IsPlanWith mark seal part.digest cell → IsSiteOf part.name cell db
-    → MatchOption place (IsMark mark → ⊥) (IsPlaceIn mark)
-    → MatchOption place (IsOwnedBy part db → ⊥) (IsPlaceOf part db)
-placed part db mark seal cell None with site none = λ owned. none with.marked
-placed part db mark seal cell (Some put.InRows) with site is = (seal, (cell, subst (λ m. IsPlanWith m seal part.digest cell) is with, site))
-placed part db mark seal cell (Some (put.InFile said)) with site is = (mark, (seal, (cell, with, site)), is)
+    → MatchOption place (IsMark mark → (seal_said seal).count ≡ 0 → ⊥) (λ p. IsPlaceIn mark p × ((seal_said seal).count ≡ 0))
+    → MatchOption place (IsOwnedBy part db → HaveAllLines db → ⊥) (λ p. IsPlaceOf part db p × HaveAllLines db)
+placed part db mark seal cell place with site is = go place is
+  where
+    counts : (seal_in db).count ≡ (seal_said seal).count
+    counts = ap (λ (s : Seal). s.count) (seals_are_read mark seal part db (cell, with, site))
+
+    go : (place : Option DataPlace) → MatchOption place (IsMark mark → (seal_said seal).count ≡ 0 → ⊥) (λ p. IsPlaceIn mark p × ((seal_said seal).count ≡ 0))
+        → MatchOption place (IsOwnedBy part db → HaveAllLines db → ⊥) (λ p. IsPlaceOf part db p × HaveAllLines db)
+    go None none = λ owned all. none with.marked (sym counts ∙ all)
+    go (Some put.InRows) is = ((seal, (cell, subst (λ m. IsPlanWith m seal part.digest cell) is.0 with, site)), counts ∙ is.1)
+    go (Some (put.InFile said)) is = ((mark, (seal, (cell, with, site)), is.0), counts ∙ is.1)
 
 pub owned_at : (part : Part) (db : Trees) (place : DataPlace) → IsPlaceOf part db place → IsOwnedBy part db
 owned_at part db put.InRows is = ([], is)
@@ -154,7 +170,7 @@ module _ (part : Part) (old new : State) (has : HasTables old.now) (live : IsLiv
       none : HasCleanDisk new → (r : Result (Option FoundTables) LedgerFault)
           → Asked HasTables r old new (ShowsAll old.now)
           → IfNotFound r (HasNoLedgerOf part old.now)
-      none clean (Ok None) a = λ n is. (a.shown clean has).1 n is.agreed is.owned
+      none clean (Ok None) a = λ n is. (a.shown clean has).1 n is.agreed is.owned is.lines
       none clean (Err why) a = tt
       none clean (Ok (Some found)) a = tt
 
@@ -173,7 +189,7 @@ module _ (part : Part) (old new : State) (has : HasTables old.now) (live : IsLiv
       are clean (Ok None) a = tt
       are clean (Err why) a = tt
       are clean (Ok (Some found)) a =
-          subst (λ (d : Database). AreOf part d.trees found) (back clean (Some found) (ShowsAll old.now) a) (a.shown clean has).1
+          subst (λ (d : Database). AreOf part d.trees found) (back clean (Some found) (ShowsAll old.now) a) (a.shown clean has).1.0
 
       found : HasCleanDisk new → (r : Result (Option FoundTables) LedgerFault) → Asked HasTables r old new (ShowsAll old.now) → IfFound r (λ found. IsLedgerFound found.next part old new)
       found clean (Ok None) a = tt
@@ -184,8 +200,8 @@ module _ (part : Part) (old new : State) (has : HasTables old.now) (live : IsLiv
           let was_open = a.was_open clean is.0 in
           let shown = a.shown clean has in
           let test = shown.0 in
-          let all = shown.1.agreed in
-          let mine = owned_at part old.now.trees it.place shown.1.place in
+          let all = shown.1.0.agreed in
+          let mine = owned_at part old.now.trees it.place shown.1.0.place in
           let committed = (a.stays clean is.0 has).committed in
           let behind : old.now ≡ new.committed = back clean (Some it) (ShowsAll old.now) a in
           record {
@@ -197,12 +213,12 @@ module _ (part : Part) (old new : State) (has : HasTables old.now) (live : IsLiv
                 below = subst (λ (d : Database). AreBelow n (d.trees 11)) (sym is.1) all.below;
               };
               ledger = subst (λ (d : Database). IsLedgerOf [] n part d.trees) behind
-                  (found_is_kept n part old.now.trees all mine);
+                  (found_is_kept n part old.now.trees all mine shown.1.1);
             };
             owned = subst (λ (d : Database). IsOwnedBy part d.trees) behind mine;
             next = subst (λ (d : Database). IsNext n d.trees) behind all.next;
             ledger = subst (HasLedgerOf n part) behind
-                (record { schema = has; owned = mine; agreed = all });
+                (record { schema = has; owned = mine; lines = shown.1.1; agreed = all });
             same = committed;
           }
 

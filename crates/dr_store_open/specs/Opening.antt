@@ -1,5 +1,5 @@
 -- What is found in a file, and what an opening answers.
-use Rattle.std.specs.Prelude.{◌≡◌, ◌≤◌, ◌+◌, ◌++◌, ◌⊎◌, ℕ, zero, suc, List, [], ◌∷◌}
+use Rattle.std.specs.Prelude.{◌≡◌, ◌<◌, ◌≤◌, ◌+◌, ◌++◌, ◌⊎◌, ℕ, zero, suc, List, [], ◌∷◌}
 use Rattle.std.specs.Prelude.{true, false, IsTrue}
 use Rattle.std.specs.Prelude.{IfErr, IfOk, Option, None, Some, Result, Ok, Err, OnOk, length}
 use Rattle.std.specs.FinMap as map
@@ -29,7 +29,9 @@ use Rattle.dr_store_lists.specs.declared.listing.JournalRow.{JournalRow}
 use Rattle.dr_store_changes.specs.Writing.{IsReady}
 use Rattle.dr_store_data.specs.declared.mark.DataMark.{DataMark}
 use Rattle.dr_store_data.specs.Heads.{HasHead, IsMarkOf}
-use Rattle.dr_store_calls.specs.Owners.{IsMark, IsMarkAndSeal, IsOwnedBy, IsOwnedWith}
+use Rattle.dr_store_sealed.specs.InTables.{seal_said}
+use Rattle.dr_store_calls.specs.Owners.{IsMark, IsMarkAndSeal, IsOwnedBy, IsOwnedSo, IsOwnedWith}
+use Rattle.dr_store_calls.specs.Owners.{seal_in}
 use Rattle.dr_store_calls.specs.Calling.{IsKept}
 use Rattle.dr_store_audit.specs.Found.{HoldTogether}
 use Rattle.dr_store_audit.specs.Older.{IsOlder}
@@ -40,7 +42,7 @@ use Rattle.dr_store_open.specs.declared.fault.OpeningFault.TheVariants as openin
 use Rattle.dr_store_open.specs.declared.finding.FoundTables.{FoundTables}
 use Rattle.dr_store_open.specs.DataSets.{IsOwn}
 use Rattle.dr_store_open.specs.Faults.{IsOfData}
-use Rattle.dr_store_open.specs.Places.{HasOwnOn, IsPlaceOf, IsPlacedBy, seen_on}
+use Rattle.dr_store_open.specs.Places.{HasOwnOn, IsAt, IsPlaceOf, IsPlacedBy, names_at, seen_on}
 use Rattle.dr_store_open.specs.Renewing.{IsMadeBy, KeepsRows}
 
 -- ---- what is tested of rows
@@ -79,20 +81,26 @@ abbrev pub IsAgreedIf : Part → DataPlace → Trees → Option FoundTables → 
 IsAgreedIf part place db None = (n : ℕ) → IsAgreed n part db → ⊥
 IsAgreedIf part place db (Some found) = IsPlaceOf part db place → AreOf part db found
 
--- the tables are those of a ledger of that site, and it owns them; or they aren't, or it doesn't
+-- no line has left the tables: their seal counts none
+abbrev pub HaveAllLines : Trees → Type 0
+HaveAllLines db = (seal_in db).count ≡ 0
+
+-- The tables are those of a ledger of that site, it owns them, and they have all its lines; or
+-- that isn't so.
 abbrev pub IsWholeIf : Part → Trees → Option FoundTables → Type 0
-IsWholeIf part db None = (n : ℕ) → IsAgreed n part db → IsOwnedBy part db → ⊥
-IsWholeIf part db (Some found) = AreOf part db found
+IsWholeIf part db None = (n : ℕ) → IsAgreed n part db → IsOwnedBy part db → HaveAllLines db → ⊥
+IsWholeIf part db (Some found) = AreOf part db found × HaveAllLines db
 
 -- each line has a number
 abbrev pub HasNumbers : Trees → Type 0
 HasNumbers db = (m : ℕ) × AreBelow m (db 11)
 
 -- The database has a ledger of that site, whose next line has number n: it has just a ledger's
--- tables, the site owns them, and they are those of a ledger of that site.
+-- tables, the site owns them, no line has left them, and they are those of a ledger of that site.
 pub record HasLedgerOf (n : ℕ) (part : Part) (db : Database) : Type 0 where
   pub schema : db.schema ≡ tables
   pub owned : IsOwnedBy part db.trees
+  pub lines : HaveAllLines db.trees
   pub agreed : IsAgreed n part db.trees
 
 -- it has none, whatever the number of the next line
@@ -277,6 +285,13 @@ PlacesAreOne =
     → place ≡ beside
 
 module _ {D : Type 0} (g : Ghosts D) where
+  -- the cells of a shelf name places just where the data sets are in a file
+  abbrev pub ShelvesAreInTheirPlaces : Type 0
+  ShelvesAreInTheirPlaces =
+      (place : DataPlace) (shelf : LedgerShelf D g)
+      → IsAt place shelf
+      → named_on shelf ≡ names_at place
+
   -- where the tables have a mark, a ledger's shelf is over a file that has it, and over no other
   abbrev pub MarkedTablesHaveTheirFile : Type 0
   MarkedTablesHaveTheirFile =
@@ -298,7 +313,8 @@ module _ {D : Type 0} (g : Ghosts D) where
       × (map.get (items_of db) uid ≡ Some (instance_of item))
 
 -- A site's ledger isn't taken for another's: where its data sets are in a file, whatever they are;
--- where they are in rows, if each is that of its item.
+-- where they are in rows, if each is that of its item. Nor is one that has its data sets in rows
+-- refused for a file of data sets: for one that is missing, that is there, or that is in use.
 pub record LedgersAreTheirSites : Type 0 where
   pub marked : (n : ℕ) (part : Part) (db : Database) (mark : List ℕ) (said : DataMark)
       → HasLedgerOf n part db
@@ -309,6 +325,18 @@ pub record LedgersAreTheirSites : Type 0 where
       → HasLedgerOf n part db
       → ((uid : Text) → IsOwn uid db.trees)
       → IsWhy part db opening.OtherSite → ⊥
+  pub lost : (n : ℕ) (part : Part) (db : Database)
+      → HasLedgerOf n part db
+      → IsOwnedWith [] part db.trees
+      → IsWhy part db opening.NoData → ⊥
+  pub there : (n : ℕ) (part : Part) (db : Database)
+      → HasLedgerOf n part db
+      → IsOwnedWith [] part db.trees
+      → IsWhy part db opening.DataIsThere → ⊥
+  pub in_use : (n : ℕ) (part : Part) (db : Database)
+      → HasLedgerOf n part db
+      → IsOwnedWith [] part db.trees
+      → IsWhy part db opening.InUse → ⊥
 
 -- what a database has is one node's ledger, under one plan, and its next line has one number
 abbrev pub LedgersAreOne : Type 0
@@ -317,14 +345,18 @@ LedgersAreOne =
     → HasLedgerOf n part db → HasLedgerOf m other db
     → (n ≡ m) × (part.name ≡ other.name) × (part.digest ≡ other.digest)
 
--- without an owner, with other bytes behind a plan's SHA-256 than those of a mark and a seal, or
--- with a line under another number than its place, there is none
+-- without an owner, with other bytes behind a plan's SHA-256 than those of a mark and a seal, with
+-- a seal that counts lines, or with a line under another number than its place, there is none
 pub record BadTablesAreNone : Type 0 where
   pub unowned : (part : Part) (db : Database) → db.trees 0 ≡ [] → HasNoLedgerOf part db
   pub unmarked : (part : Part) (db : Database) (node : Text) (digest behind : List ℕ)
       → IsSiteOf node (digest ++ behind) db.trees
       → length digest ≡ 32
       → ((mark seal : List ℕ) → IsMarkAndSeal mark seal behind → ⊥)
+      → HasNoLedgerOf part db
+  pub sealed : (part other : Part) (db : Database) (mark seal : List ℕ)
+      → IsOwnedSo mark seal other db.trees
+      → 0 < (seal_said seal).count
       → HasNoLedgerOf part db
   pub renumbered : (part : Part) (db : Database) (note : JournalRow) (rest : List (ℕ × JournalRow))
       → map.entries (notes_of db.trees) ≡ (2, note) ∷ rest

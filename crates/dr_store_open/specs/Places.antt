@@ -44,6 +44,10 @@ abbrev pub IsPlaceIn : List ℕ → DataPlace → Type 0
 IsPlaceIn mark InRows = mark ≡ []
 IsPlaceIn mark (InFile said) = IsMarkOf mark said
 
+-- what is shown has a ledger's head, with some mark
+abbrev pub HasSomeHead : List ℕ → Type 0
+HasSomeHead shown = (mark : List ℕ) × HasHead mark shown
+
 -- a file that shows this has the head of the mark, and whatever a crash leaves of it
 abbrev pub IsBegun : DataMark → List ℕ → (List ℕ → Type 0) → Type 0
 IsBegun said seen may_leave = HasHead said.mark seen × Only seen may_leave
@@ -58,6 +62,11 @@ module _ {D : Type 0} {g : Ghosts D} where
   abbrev pub seen_on : LedgerShelf D g → List ℕ
   seen_on (Rows it) = []
   seen_on (File it) = seen it.bodies
+
+  -- where it is over a file, that file shows this
+  abbrev pub ShowsFile : List ℕ → LedgerShelf D g → Type 0
+  ShowsFile shown (Rows it) = Unit {0}
+  ShowsFile shown (File it) = seen it.bodies ≡ shown
 
   -- the shelf is in that place
   abbrev pub IsAt : DataPlace → LedgerShelf D g → Type 0

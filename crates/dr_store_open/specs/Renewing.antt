@@ -1,17 +1,18 @@
 -- What a file from before keeps where it is brought over.
-use Rattle.std.specs.Prelude.{◌≡◌, ℕ, false, List, [], Some, Ok, codes}
+use Rattle.std.specs.Prelude.{◌≡◌, ◌∷◌, ◌++◌, ℕ, false, List, [], Some, Ok, codes}
 use Rattle.sqlite.specs.Effect.{Database, Reads}
 use Rattle.sqlite.specs.Given.{IsPlain}
 use Rattle.sqlite.specs.Listing.{reads_listing, understood}
-use Rattle.sqlite.specs.Order.{Row}
+use Rattle.sqlite.specs.Order.{Row, column}
 use Rattle.sqlite.specs.Schema.{Schema}
+use Rattle.sqlite.specs.declared.types.Value.TheVariants.{Blob, Text as TextCell}
 use Rattle.sqlite_resolve.specs.declared.compiled.Compiled.{Compiled}
 use Rattle.sqlite_schema.specs.declared.command.Command.TheVariants.{CreateIndex}
 use Rattle.dr_base.specs.Texts.{Text}
 use Rattle.dr_site.specs.Parts.{Part}
 use Rattle.dr_store_schema.specs.Statements as text
 use Rattle.dr_store_reads.specs.Queries.{IsOwnerAsShown}
-use Rattle.dr_store_calls.specs.Owners.{IsPlanWith}
+use Rattle.dr_store_calls.specs.Owners.{IsMark, IsPlanWith}
 use Rattle.dr_store_open.specs.declared.sheets.Sheets.{Sheets}
 
 -- the journal by the columns that it had, which say of each line what call it was
@@ -57,7 +58,8 @@ pub record KeepsRows (old new : Database) : Type 0 where
   pub rows : AnswersTheSame old new text.all_rows
   pub lines : AnswersTheSame old new all_calls
 
--- No table has a row, but for the owner's: the queries that ask for all else answer nothing.
+-- There is no instance, no arrival, no kept UID, no row of the queue and no line: the queries that
+-- ask for them answer nothing. None of them asks for `print` and `target`.
 pub record HasNoRows (db : Database) : Type 0 where
   pub items : IsAnswer text.all_items db []
   pub arrivals : IsAnswer text.all_arrivals db []
@@ -65,8 +67,8 @@ pub record HasNoRows (db : Database) : Type 0 where
   pub rows : IsAnswer text.all_rows db []
   pub lines : IsAnswer all_calls db []
 
--- The tables of a ledger that was made just now, for the node and with that for its plan: site has
--- one row, which says so, and no other table has a row.
+-- The tables of a ledger that was made just now, for the node and with that for its plan: the query
+-- of `site` answers one row, which says so, and the queries above answer none.
 pub record IsMadeFor (node : Text) (cell : List ℕ) (db : Database) : Type 0 where
   pub rows : List Row
   pub site : IsAnswer text.the_site db rows
@@ -81,6 +83,21 @@ IsMadeWith mark part db =
 -- with some mark
 abbrev pub IsMadeBy : Part → Database → Type 0
 IsMadeBy part db = (mark : List ℕ) × IsMadeWith mark part db
+
+-- What SQL shows of the tables of a new ledger: one row says the site's node, and for its plan the
+-- SHA-256 with a mark right behind it, or nothing. Nothing else is there that these texts ask for.
+pub record ShowsNewLedger (part : Part) (db : Database) : Type 0 where
+  pub row : Row
+  pub mark : List ℕ
+  pub marked : IsMark mark
+  pub site : IsAnswer (codes "SELECT id, node, plan FROM site") db (row ∷ [])
+  pub node : column row 1 ≡ TextCell part.name
+  pub plan : column row 2 ≡ Blob (part.digest ++ mark)
+  pub items : IsAnswer text.all_items db []
+  pub arrivals : IsAnswer text.all_arrivals db []
+  pub kept : IsAnswer text.all_kept db []
+  pub rows : IsAnswer text.all_rows db []
+  pub lines : IsAnswer all_calls db []
 
 -- the sheets have what it has
 pub record AreSheetsOf (db : Database) (sheets : Sheets) : Type 0 where

@@ -98,6 +98,8 @@ pub fn of_making(fault: DataFileFault) -> OpeningFault
     ensures other { result ≢ opening.OtherSite }
     ensures there { (result ≡ opening.DataIsThere) ↔ (fault ≡ file.IsThere) }
     ensures lost { result ≢ opening.NoData }
+    ensures in_use { (result ≡ opening.InUse) ↔ (fault ≡ file.InUse) }
+    ensures memory { (result ≡ opening.Memory) ↔ (fault ≡ file.Memory) }
 {
     match fault {
         DataFileFault::IsThere => OpeningFault::DataIsThere,
@@ -113,6 +115,8 @@ pub fn of_data(fault: DataFileFault) -> OpeningFault
     ensures other { result ≢ opening.OtherSite }
     ensures there { result ≢ opening.DataIsThere }
     ensures lost { (result ≡ opening.NoData) ↔ (fault ≡ file.Missing) }
+    ensures in_use { (result ≡ opening.InUse) ↔ (fault ≡ file.InUse) }
+    ensures memory { (result ≡ opening.Memory) ↔ (fault ≡ file.Memory) }
 {
     match fault {
         DataFileFault::Missing => OpeningFault::NoData,
@@ -127,6 +131,7 @@ pub fn of_data(fault: DataFileFault) -> OpeningFault
 pub fn of_tables(fault: OpeningFault) -> OpeningFault
     ensures other { (result ≡ opening.OtherSite) ↔ (fault ≡ opening.OtherSite) }
     ensures of_data { IsOfData result → ⊥ }
+    ensures memory { (result ≡ opening.Memory) ↔ (fault ≡ opening.Memory) }
 {
     match fault {
         OpeningFault::OtherSite => OpeningFault::OtherSite,

@@ -1,12 +1,17 @@
 //! A site's ledger in the two files of a database: opened, closed, and found again.
-ghost use Rattle.std.specs.Prelude.{◌≡◌, IfOk, IsTrue, false};
+ghost use Rattle.std.specs.Prelude.{◌≡◌, [], IfOk, IsTrue, false};
 ghost use Rattle.sqlite.specs.Closing.{IsCopied};
 ghost use Rattle.sqlite.specs.Effect.{Database};
 ghost use Rattle.sqlite.specs.Files.{file_state, image_of};
 ghost use Rattle.sqlite.specs.State.{HasCleanDisk};
 ghost use Rattle.sqlite_wal.specs.Files.{image_at};
 ghost use Rattle.sqlite_wal.specs.Reads.{AreClean};
+ghost use Rattle.dr_ledger.specs.Books.{empty_book};
+ghost use Rattle.dr_store_shelf.specs.Either.{named_on};
+ghost use Rattle.dr_store_schema.specs.Books.{book_of};
+ghost use Rattle.dr_store_open.specs.declared.data.Keeping.TheVariants as wanted;
 ghost use Rattle.dr_store_open.specs.Opening.{HasLedgerOf};
+ghost use Rattle.dr_store_open.specs.Places.{HasSomeHead, names_in, seen_on};
 ghost use Rattle.dr_store_open.specs.Stopped.{HoldsLedgers};
 
 use crate::data::{Keeping, OpenedLedger};
@@ -23,7 +28,8 @@ use sqlite_disk::Disk;
 use std::alloc::Global;
 
 /// The connection to a database in two files, its log and itself, with this site's ledger, as `on`
-/// finds it. Where they hold a database with a ledger's tables, the ledger is that one.
+/// finds it. Where they hold a database with a ledger's tables, the ledger is that one. Where the
+/// database's file is empty, it is a new one, with its data sets where they are wanted.
 ///
 /// Errors: OtherSite; NoData; DataIsThere; InUse; Store; Memory.
 pub fn open_files<D: Disk + Drop, F: DataFile>(
@@ -41,6 +47,16 @@ pub fn open_files<D: Disk + Drop, F: DataFile>(
     ensures found { IfOk result (λ it. HasCleanDisk (file_state it.0)
         → (d : Database) → HoldsLedgers (image_of D.Disk files) d
         → (file_state it.0).committed ≡ d) }
+    ensures made { IfOk result (λ it. HasCleanDisk (file_state it.0)
+        → (image_of D.Disk files).db ≡ []
+        → book_of (file_state it.0).committed.trees ≡ empty_book) }
+    ensures wanted { IfOk result (λ it. HasCleanDisk (file_state it.0)
+        → (image_of D.Disk files).db ≡ []
+        → named_on it.1.shelf ≡ names_in keeping) }
+    ensures begun { IfOk result (λ it. HasCleanDisk (file_state it.0)
+        → (image_of D.Disk files).db ≡ []
+        → keeping ≡ wanted.InFile
+        → HasSomeHead (seen_on it.1.shelf)) }
     ensures idle { IfOk result (λ it. it.0.in_transaction ≡ false) }
 {
     match Connection::open_files(alloc, files, options) {
@@ -51,6 +67,7 @@ pub fn open_files<D: Disk + Drop, F: DataFile>(
 
 /// The same over the two files at a path, where `start` stands for what they hold: no clause ties
 /// them to the path. Where they hold a database with a ledger's tables, the ledger is that one.
+/// Where the database's file is empty, it is a new one, with its data sets where they are wanted.
 ///
 /// Errors: OtherSite; NoData; DataIsThere; InUse; Store; Memory.
 pub fn open_path<T: Start, F: DataFile>(
@@ -67,6 +84,16 @@ pub fn open_path<T: Start, F: DataFile>(
     ensures found { IfOk result (λ it. HasCleanDisk (file_state it.0)
         → (d : Database) → HoldsLedgers (image_at T.Start) d
         → (file_state it.0).committed ≡ d) }
+    ensures made { IfOk result (λ it. HasCleanDisk (file_state it.0)
+        → (image_at T.Start).db ≡ []
+        → book_of (file_state it.0).committed.trees ≡ empty_book) }
+    ensures wanted { IfOk result (λ it. HasCleanDisk (file_state it.0)
+        → (image_at T.Start).db ≡ []
+        → named_on it.1.shelf ≡ names_in keeping) }
+    ensures begun { IfOk result (λ it. HasCleanDisk (file_state it.0)
+        → (image_at T.Start).db ≡ []
+        → keeping ≡ wanted.InFile
+        → HasSomeHead (seen_on it.1.shelf)) }
     ensures idle { IfOk result (λ it. it.0.in_transaction ≡ false) }
 {
     match Connection::open_from(rt, path, false, start) {

@@ -7,9 +7,10 @@ ghost use Rattle.dr_store_schema.specs.Ledgers.{IsLedger};
 ghost use Rattle.dr_store_reads.specs.Queries.{Asked};
 ghost use Rattle.dr_store_audit.specs.Found.{AgreesAs, HoldTogether};
 ghost use Rattle.dr_store_writes.specs.Effects.{IsSiteOf};
+ghost use Rattle.dr_store_sealed.specs.InTables.{IsSealText, seal_said};
 ghost use Rattle.dr_store_calls.specs.Owners.{IsMark, IsOwnedBy};
 ghost use Rattle.dr_store_open.specs.Listed.{AreWholeListsOf};
-ghost use Rattle.dr_store_open.specs.Opening.{IsAgreedIf, IsWholeIf, Seen};
+ghost use Rattle.dr_store_open.specs.Opening.{HaveAllLines, IsAgreedIf, IsWholeIf, Seen};
 ghost use Rattle.dr_store_open.specs.Places.{IsPlaceIn, IsPlaceOf};
 
 use crate::data::DataPlace;
@@ -21,6 +22,7 @@ use dr_store_audit::{FindingFault, TableLists, agree};
 use dr_store_calls::mark_for;
 use dr_store_data::mark_in;
 use dr_store_reads::{Owner, Print, find_owner};
+use dr_store_sealed::{Seal, read_seal};
 use sqlite::{Alter, Connection};
 use std::alloc::Global;
 
@@ -53,16 +55,46 @@ fn is_node(owner: &Owner, site: &Site) -> bool
     owner.node == *site.name()
 }
 
-/// Where the data sets are, if the node and the plan are the site's.
+/// Whether it counts no line.
+fn is_of_none(seal: &Seal) -> bool
+    ensures { IsTrue result ↔ (seal.now.count ≡ 0) }
+{
+    seal.count == 0
+}
+
+/// Whether tables with this for a seal have all their lines: it counts none that have left.
+fn counts_none(seal: &[u8]) -> bool
+    ensures { IsSealText seal.now → (IsTrue result ↔ ((seal_said seal.now).count ≡ 0)) }
+{
+    match read_seal(seal) {
+        Some(said) => is_of_none(&said),
+        None => false,
+    }
+}
+
+/// The place that a mark says, where the seal behind it counts no line.
+fn place_under(mark: &[u8], seal: &[u8]) -> Option<DataPlace>
+    ensures { IsSealText seal.now → MatchOption result
+        (IsMark mark.now → (seal_said seal.now).count ≡ 0 → ⊥)
+        (λ place. IsPlaceIn mark.now place × ((seal_said seal.now).count ≡ 0)) }
+{
+    if !counts_none(seal) {
+        return None;
+    }
+    place_in(mark)
+}
+
+/// Where the data sets are, if the node and the plan are the site's, and no line has left.
 fn place_of(owner: &Owner, site: &Site) -> Option<DataPlace>
     ensures { (db : Trees) → IsSiteOf owner.now.node owner.now.plan db
-        → MatchOption result (IsOwnedBy site.now db → ⊥) (IsPlaceOf site.now db) }
+        → MatchOption result (IsOwnedBy site.now db → HaveAllLines db → ⊥)
+        (λ place. IsPlaceOf site.now db place × HaveAllLines db) }
 {
     if !is_node(owner, site) {
         return None;
     }
     match mark_for(owner.plan.as_bytes(), site.digest()) {
-        Some((mark, _)) => place_in(mark),
+        Some((mark, seal)) => place_under(mark, seal),
         None => None,
     }
 }

@@ -1,5 +1,6 @@
 //! Laws of what an opening finds, and of what it leaves.
 ghost use Rattle.std.specs.Prelude.{◌≡◌, ◌⊎◌, ℕ, IsTrue};
+ghost use Rattle.sqlite.specs.Effect.{Database, IsDatabase};
 ghost use Rattle.sqlite.specs.Held.{state};
 ghost use Rattle.sqlite.specs.Tree.{Trees};
 ghost use Rattle.dr_store_schema.specs.Tables.{tables};
@@ -11,8 +12,9 @@ ghost use Rattle.dr_store_open.specs.Opening.{LeavesOldOr};
 ghost use Rattle.dr_store_open.specs.Opening.{LeavesOldOrCommitted, LedgersAreOne};
 ghost use Rattle.dr_store_open.specs.Opening.{LedgersAreTheirSites, MarkedTablesHaveTheirFile};
 ghost use Rattle.dr_store_open.specs.Opening.{NewLedgersAreLedgers, PlacesAreOne};
-ghost use Rattle.dr_store_open.specs.Opening.{RowsHaveDataSets, StaysAsFound};
-ghost use Rattle.dr_store_open.specs.Renewing.{IsMadeBy, KeepsRows};
+ghost use Rattle.dr_store_open.specs.Opening.{RowsHaveDataSets, ShelvesAreInTheirPlaces};
+ghost use Rattle.dr_store_open.specs.Opening.{StaysAsFound};
+ghost use Rattle.dr_store_open.specs.Renewing.{KeepsRows, ShowsNewLedger};
 ghost use Rattle.dr_store_open.specs.Stopped.{CallsAreStopped, StoppedLedgersAreHeld};
 ghost use Rattle.dr_store_open.specs.Stopped.{StoppedLedgersStand};
 
@@ -33,8 +35,9 @@ pub fn a_file_has_one_ledger()
     ensures { LedgersAreOne }
 {}
 
-/// Tables without an owner are no ledger's, nor those in which other bytes than a mark's stand
-/// behind the plan's SHA-256, nor those whose first line isn't numbered 1.
+/// Tables without an owner are no ledger's, nor those in which other bytes than a mark's and a
+/// seal's stand behind the plan's SHA-256, nor those whose seal counts a line, nor those whose first
+/// line isn't numbered 1.
 pub fn bad_tables_are_no_ledgers()
     ensures { BadTablesAreNone }
 {}
@@ -42,6 +45,11 @@ pub fn bad_tables_are_no_ledgers()
 /// A ledger has its data sets in its rows, or all in one file: its tables say one place.
 pub fn data_sets_are_in_one_place()
     ensures { PlacesAreOne }
+{}
+
+/// A shelf of a ledger in rows is over no file, and one of a ledger in a file is over one.
+pub fn shelves_are_in_their_places<D: Disk>()
+    ensures { ShelvesAreInTheirPlaces D.Disk }
 {}
 
 /// Where a ledger's tables have a mark, its shelf is over a file with that mark, and over no other.
@@ -56,7 +64,7 @@ pub fn rows_have_data_sets<D: Disk>()
 {}
 
 /// A site's ledger isn't refused as another's for what a data set in a file is, whatever it is, nor
-/// for one in a row that is its item's.
+/// for one in a row that is its item's. One in rows isn't refused for a file of data sets.
 pub fn ledgers_are_their_sites()
     ensures { LedgersAreTheirSites }
 {}
@@ -76,14 +84,21 @@ pub fn a_ledger_stays<S: Alter>(before: &Connection<S>, after: &Connection<S>)
         → (state S.Store after.now).committed ≡ (state S.Store before.now).committed }
 {}
 
-/// Of a file that has other tables, or a view alone, it makes nothing either.
+/// Of a file that has other tables, or a view alone, it makes nothing either: what is committed
+/// stays, too, as far as the connection is open still.
 pub fn another_file_stays<S: Alter>(before: &Connection<S>, after: &Connection<S>)
-    ensures { (part : Part)
+    ensures crash { (part : Part)
         → LeavesFile part (state S.Store before.now) (state S.Store after.now)
         → (IsBlank (state S.Store before.now).now.schema → ⊥)
         → (IsOlder (state S.Store before.now).now.schema → ⊥)
         → (db : Trees) → (state S.Store after.now).may_leave db
         → (state S.Store before.now).may_leave db }
+    ensures stays { (part : Part)
+        → LeavesFile part (state S.Store before.now) (state S.Store after.now)
+        → (IsBlank (state S.Store before.now).now.schema → ⊥)
+        → (IsOlder (state S.Store before.now).now.schema → ⊥)
+        → IsTrue (state S.Store after.now).is_open
+        → (state S.Store after.now).committed ≡ (state S.Store before.now).committed }
 {}
 
 /// Of a file from before it leaves what there was, or a database of which the same queries answer
@@ -96,13 +111,16 @@ pub fn an_older_file_keeps_its_rows<S: Alter>(before: &Connection<S>, after: &Co
         (state S.Store after.now) }
 {}
 
-/// Of a file without tables it leaves what there was, or a database that its own site owns, of
-/// which the queries answer no instance, no arrival, no row and no line.
+/// Of a file without tables it leaves what there was, or a database whose one owner is the site's
+/// node under its plan. Of it the queries answer no instance, no arrival, no kept UID, no row and
+/// no line.
 pub fn a_new_file_has_no_rows<S: Alter>(before: &Connection<S>, after: &Connection<S>)
     ensures { (part : Part)
         → LeavesFile part (state S.Store before.now) (state S.Store after.now)
         → IsBlank (state S.Store before.now).now.schema
-        → LeavesOldOr (IsMadeBy part) (state S.Store before.now) (state S.Store after.now) }
+        → (db : Trees) → (state S.Store after.now).may_leave db
+        → (state S.Store before.now).may_leave db
+        ⊎ ((d : Database) × (d.trees ≡ db) × IsDatabase d × ShowsNewLedger part d) }
 {}
 
 /// Where a crash leaves what it could before or what is committed, and the store was open before,

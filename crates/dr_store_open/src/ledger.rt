@@ -7,7 +7,7 @@ ghost use Rattle.dr_store_calls.specs.Calling.{IsKept};
 ghost use Rattle.dr_store_open.specs.declared.data.Keeping.TheVariants as wanted;
 ghost use Rattle.dr_store_open.specs.declared.fault.OpeningFault.TheVariants as opening;
 ghost use Rattle.dr_store_open.specs.Opening.{HasLedgerOf, IsBlank};
-ghost use Rattle.dr_store_open.specs.Places.{HasOwnOn, IsPlacedBy, names_in};
+ghost use Rattle.dr_store_open.specs.Places.{HasOwnOn, HasSomeHead, IsPlacedBy, names_in, seen_on};
 
 use crate::data::{Keeping, OpenedLedger};
 use crate::fault::OpeningFault;
@@ -36,6 +36,8 @@ pub fn ledger_of<S: Alter, D: Disk>(
     ensures site { result.site ≡ site }
     ensures conn { result.conn ≡ conn }
     ensures shelf { result.shelf ≡ opened.shelf }
+    ensures next { result.next ≡ opened.next }
+    ensures moment { result.moment ≡ moment }
 {
     let OpenedLedger { shelf, next } = opened;
     SqlLedger::of(alloc, conn, shelf, site, next, moment)
@@ -57,6 +59,7 @@ pub fn ledger_on<S: Alter + Drop, F: DataFile>(
 ) -> Result<SqlLedger<S, LedgerShelf<F::Disk>>, OpeningFault>
     requires { conn.in_transaction ≡ false }
     ensures of { IfOk result (λ l. l.site ≡ site) }
+    ensures moment { IfOk result (λ l. l.moment ≡ moment) }
     ensures is { IfOk result (λ l. HasCleanDisk (state S.Store l.conn)
         → (n : ℕ) × HasLedgerOf n l.site (state S.Store l.conn).committed) }
     ensures placed { IfOk result (λ l. HasCleanDisk (state S.Store l.conn)
@@ -65,6 +68,9 @@ pub fn ledger_on<S: Alter + Drop, F: DataFile>(
         → HasOwnOn (state S.Store l.conn).committed.trees l.shelf) }
     ensures wanted { IfOk result (λ l. IsBlank (state S.Store conn).now.schema
         → named_on l.shelf ≡ names_in keeping) }
+    ensures begun { IfOk result (λ l. IsBlank (state S.Store conn).now.schema
+        → keeping ≡ wanted.InFile
+        → HasSomeHead (seen_on l.shelf)) }
     ensures there { IfErr result (λ fault. fault ≡ opening.DataIsThere
         → (keeping ≡ wanted.InFile) × IsBlank (state S.Store conn).now.schema) }
 {

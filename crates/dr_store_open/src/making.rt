@@ -64,7 +64,7 @@ fn put_owner<'x, S: Alter>(
     }
 }
 
-/// Whether no table has a row, but for the owner's.
+/// Whether the queries answered nothing but the owner's row.
 fn has_no_rows(sheets: &Sheets) -> bool
     ensures { IsTrue result
         → (sheets.now.items.items ≡ []) × (sheets.now.arrivals.items ≡ [])
@@ -77,7 +77,8 @@ fn has_no_rows(sheets: &Sheets) -> bool
     sheets.kept.is_empty() && sheets.rows.is_empty() && sheets.lines.is_empty()
 }
 
-/// Tests that no table has a row, but for the owner's, which is this one.
+/// Tests that the queries show this owner's row, and no instance, arrival, kept UID, row of the
+/// queue or line. None of them asks for `print` and `target`.
 fn test_made<'x, S: Alter>(
     tx: &mut Transaction<'_, S>,
     node: &'x Text,

@@ -1,6 +1,6 @@
 //! A file's ledger, opened.
-ghost use Rattle.std.specs.Prelude.{◌≡◌, ◌≤◌, ◌↔◌, IfErr, IfOk, MatchResult, OnOk, false};
-ghost use Rattle.std.specs.Prelude.{◌≢◌, [], All, IsTrue, true};
+ghost use Rattle.std.specs.Prelude.{◌≡◌, ◌≤◌, ◌↔◌, IfErr, IfOk, IfSome, MatchOption, MatchResult};
+ghost use Rattle.std.specs.Prelude.{◌≢◌, [], All, IsTrue, OnOk, false, true};
 ghost use Rattle.sqlite.specs.Held.{state};
 ghost use Rattle.sqlite.specs.State.{HasCleanDisk, IsLive};
 ghost use Rattle.dr_store_schema.specs.Tables.{tables};
@@ -21,7 +21,8 @@ ghost use Rattle.dr_store_open.specs.Opening.{IsWhyNot, IsWholeOpened, LeavesFil
 ghost use Rattle.dr_store_open.specs.Opening.{LeavesOldOr, LeavesOldOrCommitted};
 ghost use Rattle.dr_store_open.specs.Opening.{StaysAsFound, StaysReady};
 ghost use Rattle.dr_store_open.specs.Faults.{IsOfData};
-ghost use Rattle.dr_store_open.specs.Places.{HasOwnOn, IsPlacedBy, names_in};
+ghost use Rattle.dr_store_open.specs.Places.{HasOwnOn, HasSomeHead, IsPlacedBy, ShowsFile};
+ghost use Rattle.dr_store_open.specs.Places.{names_in, seen_on};
 
 use crate::beside::new_data;
 use crate::bodies::test_rows;
@@ -73,8 +74,8 @@ fn find_tested<S: Alter>(
 }
 
 /// What the tables have, if the file has those of a ledger of this site: its tables are just a
-/// ledger's, the node and the plan are the site's, and all rows are what the journal's lines make,
-/// which are a history of that ledger. Its data sets aren't looked at.
+/// ledger's, the node and the plan are the site's, no line has left them, and all rows are what the
+/// journal's lines make, which are a history of that ledger. Its data sets aren't looked at.
 ///
 /// Errors: Store, Memory.
 pub fn find<S: Alter>(
@@ -148,6 +149,8 @@ fn open_found<S: Alter, F: DataFile>(
         → IfOk result (λ it. IsPlacedBy site.now (state S.Store conn.old).now.trees it.shelf) }
     ensures own { HasCleanDisk (state S.Store conn.new)
         → IfOk result (λ it. HasOwnOn (state S.Store conn.old).now.trees it.shelf) }
+    ensures shows { IfOk result (λ it.
+        IfSome made (λ disk. ShowsFile (F.Disk.Disk.seen disk) it.shelf)) }
     ensures why { HasCleanDisk (state S.Store conn.new)
         → IfErr result (IsWhyNot site.now (state S.Store conn.old).now.trees) }
     ensures there { IfErr result (λ fault. fault ≢ opening.DataIsThere) }
@@ -180,6 +183,8 @@ pub fn find_ledger<S: Alter, F: DataFile>(
         → IsKept [] it.next site.now (state S.Store conn.new)) }
     ensures own { IfOk result (λ it. HasCleanDisk (state S.Store conn.new)
         → HasOwnOn (state S.Store conn.new).committed.trees it.shelf) }
+    ensures shows { IfOk result (λ it.
+        IfSome made (λ disk. ShowsFile (F.Disk.Disk.seen disk) it.shelf)) }
     ensures idle { conn.new.in_transaction ≡ false }
     ensures there { IfErr result (λ fault. fault ≢ opening.DataIsThere) }
 {
@@ -202,6 +207,7 @@ fn make_with<S: Alter, D: Drop>(
     ensures clean { doubt (state S.Store conn.old).is_clean
         ≤ doubt (state S.Store conn.new).is_clean }
     ensures made { IfOk result (λ made. made.0 ≡ true) }
+    ensures disk { IfOk result (λ made. made.1 ≡ beside.0) }
     ensures leaves { HasCleanDisk (state S.Store conn.new)
         → OnOk result (LeavesOldOrCommitted (state S.Store conn.old) (state S.Store conn.new)) }
     ensures crash { HasCleanDisk (state S.Store conn.new)
@@ -232,6 +238,9 @@ fn make_new<S: Alter, F: DataFile>(
     ensures clean { doubt (state S.Store conn.old).is_clean
         ≤ doubt (state S.Store conn.new).is_clean }
     ensures made { IfOk result (λ made. made.0 ≡ true) }
+    ensures begun { keeping ≡ wanted.InFile
+        → IfOk result (λ made. MatchOption made.1 ⊥ (λ it.
+        HasSomeHead (F.Disk.Disk.seen it))) }
     ensures leaves { HasCleanDisk (state S.Store conn.new)
         → OnOk result (LeavesOldOrCommitted (state S.Store conn.old) (state S.Store conn.new)) }
     ensures crash { HasCleanDisk (state S.Store conn.new)
@@ -297,6 +306,9 @@ fn prepare<S: Alter, F: DataFile>(
         → OnOk result (LeavesOldOrCommitted (state S.Store conn.old) (state S.Store conn.new)) }
     ensures made { IfOk result (λ made. made.0 ≡ true
         → IsBlank (state S.Store conn.old).now.schema) }
+    ensures begun { keeping ≡ wanted.InFile
+        → IfOk result (λ made. made.0 ≡ true → MatchOption made.1 ⊥ (λ it.
+        HasSomeHead (F.Disk.Disk.seen it))) }
     ensures kept { HasCleanDisk (state S.Store conn.new)
         → IsOlder (state S.Store conn.old).now.schema
         → (state S.Store conn.new).now.schema ≡ tables
@@ -364,6 +376,8 @@ fn open_made<S: Alter, F: DataFile>(
         (state S.Store conn.new) }
     ensures made { made.0 ≡ true
         → IfOk result (λ it. (it.next ≡ 1) × (named_on it.shelf ≡ names_in keeping)) }
+    ensures shows { IfOk result (λ it.
+        IfSome made.1 (λ disk. ShowsFile (F.Disk.Disk.seen disk) it.shelf)) }
     ensures there { IfErr result (λ fault. fault ≢ opening.DataIsThere) }
 {
     let (is_new, disk) = made;
@@ -415,6 +429,9 @@ pub fn open<S: Alter, F: DataFile>(
         → HasNewLedger (state S.Store conn.old) (state S.Store conn.new)) }
     ensures wanted { IfOk result (λ it. IsBlank (state S.Store conn.old).now.schema
         → named_on it.shelf ≡ names_in keeping) }
+    ensures begun { IfOk result (λ it. IsBlank (state S.Store conn.old).now.schema
+        → keeping ≡ wanted.InFile
+        → HasSomeHead (seen_on it.shelf)) }
     ensures file { HasCleanDisk (state S.Store conn.new)
         → LeavesFile site.now (state S.Store conn.old) (state S.Store conn.new) }
     ensures refused { IfErr result (λ fault. HasCleanDisk (state S.Store conn.new)
@@ -466,6 +483,9 @@ pub fn on<S: Alter + Drop, F: DataFile>(
         → HasNewLedger (state S.Store conn) (state S.Store it.0)) }
     ensures wanted { IfOk result (λ it. IsBlank (state S.Store conn).now.schema
         → named_on it.1.shelf ≡ names_in keeping) }
+    ensures begun { IfOk result (λ it. IsBlank (state S.Store conn).now.schema
+        → keeping ≡ wanted.InFile
+        → HasSomeHead (seen_on it.1.shelf)) }
     ensures there { IfErr result (λ fault. fault ≡ opening.DataIsThere
         → (keeping ≡ wanted.InFile) × IsBlank (state S.Store conn).now.schema) }
     ensures is { IfOk result (λ it. HasCleanDisk (state S.Store it.0)

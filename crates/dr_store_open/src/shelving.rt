@@ -1,6 +1,6 @@
 //! The shelf of a ledger that was found, opened where its tables say.
-ghost use Rattle.std.specs.Prelude.{◌≡◌, ◌≢◌, ◌++◌, ◌∷◌, [], ℕ, List, IfErr, IfOk, IsTrue};
-ghost use Rattle.std.specs.Prelude.{option_map};
+ghost use Rattle.std.specs.Prelude.{◌≡◌, ◌≢◌, ◌++◌, ◌∷◌, [], ℕ, List, IfErr, IfOk, IfSome};
+ghost use Rattle.std.specs.Prelude.{IsTrue, Ok, option_map};
 ghost use Rattle.std.specs.FinMap as map;
 ghost use Rattle.sqlite.specs.Held.{state};
 ghost use Rattle.sqlite.specs.State.{HasCleanDisk};
@@ -19,7 +19,7 @@ ghost use Rattle.dr_store_open.specs.DataSets.{NamesExtent};
 ghost use Rattle.dr_store_open.specs.DataSets.{extents_under};
 ghost use Rattle.dr_store_open.specs.Faults.{IsOfOpening};
 ghost use Rattle.dr_store_open.specs.Opening.{Seen, StaysReady};
-ghost use Rattle.dr_store_open.specs.Places.{IsAt, IsFileWith};
+ghost use Rattle.dr_store_open.specs.Places.{IsAt, IsFileWith, ShowsFile};
 
 use crate::data::DataPlace;
 use crate::fault::{OpeningFault, of_data, opening_fault};
@@ -132,7 +132,8 @@ fn disk_of<F: DataFile>(
     data: &F,
     made: Option<F::Disk>,
 ) -> Result<F::Disk, OpeningFault>
-    ensures { IfErr result IsOfOpening }
+    ensures same { IfSome made (λ disk. result ≡ Ok disk) }
+    ensures why { IfErr result IsOfOpening }
 {
     match made {
         Some(disk) => Ok(disk),
@@ -148,6 +149,7 @@ fn shelf_over<D: Disk + Drop>(
     list: Vec<Extent>,
 ) -> Result<LedgerShelf<D>, OpeningFault>
     ensures file { IfOk result (IsFileWith said.now list.items) }
+    ensures shows { IfOk result (ShowsFile (D.Disk.seen disk)) }
     ensures why { IfErr result IsOfOpening }
 {
     match open_in(alloc, disk, said, list) {
@@ -166,6 +168,8 @@ fn file_shelf<F: DataFile>(
     list: Vec<Extent>,
 ) -> Result<LedgerShelf<F::Disk>, OpeningFault>
     ensures file { IfOk result (IsFileWith said.now list.items) }
+    ensures shows { IfOk result (λ shelf.
+        IfSome made (λ disk. ShowsFile (F.Disk.Disk.seen disk) shelf)) }
     ensures why { IfErr result IsOfOpening }
 {
     match disk_of(alloc, data, made) {
@@ -192,6 +196,8 @@ fn shelf_in_file<'x, S: Alter, F: DataFile>(
         → IfOk result (λ shelf. (list : List AnExtent)
         × AreListed (state S.Store conn.old).now.trees found.now.prints.items list
         × IsFileWith said.now list shelf) }
+    ensures shows { IfOk result (λ shelf.
+        IfSome made (λ disk. ShowsFile (F.Disk.Disk.seen disk) shelf)) }
     ensures why { IfErr result IsOfOpening }
 {
     match list_extents(conn, alloc, found.prints.as_slice()) {
@@ -222,6 +228,8 @@ pub fn shelf_of<'x, S: Alter, F: DataFile>(
         ≡ map.entries (whole_prints_of (state S.Store conn.old).now.trees)
         → IfOk result (λ shelf. HaveOwn (UsesOn shelf) (AreApartIf (named_on shelf))
         (state S.Store conn.old).now.trees) }
+    ensures shows { IfOk result (λ shelf.
+        IfSome made (λ disk. ShowsFile (F.Disk.Disk.seen disk) shelf)) }
     ensures why { IfErr result IsOfOpening }
     ensures rows { found.now.place ≡ place.InRows → IfErr result (λ fault. ⊥) }
 {

@@ -33,7 +33,7 @@ returns-in-Ok-None g c =
     let is : c.in-Ok-None.field-0 ≡ None = search rules in
     record {
       asked = asked_as {Asks = IsLedger} old new c.in-Ok-None.field-0 (Ok None) (IsOwnerOf old.now.trees) (IsWholeIf part old.now.trees)
-          (λ shown n agreed owned. (subst (IsOwnerOf old.now.trees) is shown) part.name owned.1.0 owned.1.2) c.in-Ok-None.ensures.asked;
+          (λ shown n agreed owned lines. (subst (IsOwnerOf old.now.trees) is shown) part.name owned.1.1.0 owned.1.1.2) c.in-Ok-None.ensures.asked;
     }
 
 pub returns-in-Err : goal.returns-in-Err

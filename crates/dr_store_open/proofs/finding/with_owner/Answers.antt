@@ -19,7 +19,7 @@ returns-in-Some g c =
     let Other : Option FoundTables → Type 0 = λ found. IsSiteOf owner.node owner.plan db → IsWholeIf part db found in
     record {
       seen = seen_map {Asks = IsLedger} old new c.find_lists.result (IsAgreedIf part place db) Other
-          (λ found agrees owned. whole_if part place db found agrees (c.in-Some.ensures db owned))
+          (λ found agrees owned. let is = c.in-Some.ensures db owned in whole_if part place db found agrees is.0 is.1)
           (as_seen old new c.find_lists.result (IsAgreedIf part place db) c.find_lists.ensures.asked);
     }
 
@@ -31,5 +31,5 @@ returns-in-None g c =
     let db = old.now.trees in
     let Other : Option FoundTables → Type 0 = λ found. IsSiteOf owner.node owner.plan db → IsWholeIf part db found in
     record {
-      seen = not_asked {Asks = IsLedger} old (Ok None) Other (λ owned n agreed mine. c.in-None.ensures db owned mine);
+      seen = not_asked {Asks = IsLedger} old (Ok None) Other (λ owned n agreed mine lines. c.in-None.ensures db owned mine lines);
     }

@@ -3,7 +3,7 @@ use Rattle.sqlite.specs.Held.{state}
 use Rattle.sqlite.specs.State.{HasCleanDisk}
 use Rattle.dr_store_shelf.specs.Either.{named_on}
 use Rattle.dr_store_open.specs.Opening.{HasLedgerOf}
-use Rattle.dr_store_open.specs.Places.{HasOwnOn, IsPlacedBy}
+use Rattle.dr_store_open.specs.Places.{HasOwnOn, HasSomeHead, IsPlacedBy, seen_on}
 use Rattle.dr_store_open.proofs.ledger.ledger_on.Goals as goal
 
 pub ledger_of-requires-clause-kept : goal.ledger_of-requires-clause-kept
@@ -40,3 +40,7 @@ returns-in-Ok-clause-own g c clean =
 
 pub returns-in-Ok-clause-wanted : goal.returns-in-Ok-clause-wanted
 returns-in-Ok-clause-wanted g c blank = ap named_on c.ledger_of.ensures.shelf ∙ c.in-Ok.ensures.wanted blank
+
+pub returns-in-Ok-clause-begun : goal.returns-in-Ok-clause-begun
+returns-in-Ok-clause-begun g c blank file =
+    subst (λ s. HasSomeHead (seen_on s)) (sym c.ledger_of.ensures.shelf) (c.in-Ok.ensures.begun blank file)

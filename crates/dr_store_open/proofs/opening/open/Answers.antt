@@ -2,7 +2,7 @@ use Rattle.std.proofs.Common.{◌≡◌, ◌∙◌, false, ap}
 use Rattle.sqlite.specs.Held.{state}
 use Rattle.sqlite.specs.State.{HasCleanDisk}
 use Rattle.dr_store_schema.specs.Tables.{tables}
-use Rattle.dr_store_open.proofs.Opens.{found_of, if_err_as, is_of, kept_of, made_of, next_of, older_of, own_of, placed_of, refused_of, wanted_of}
+use Rattle.dr_store_open.proofs.Opens.{begun_of, found_of, if_err_as, is_of, kept_of, made_of, next_of, older_of, own_of, placed_of, refused_of, wanted_of}
 use Rattle.dr_store_open.proofs.Wholly.{file_found}
 use Rattle.dr_store_open.proofs.opening.open.Goals as goal
 
@@ -59,3 +59,7 @@ returns-in-Err-clause-refused g c clean = (
   λ other n is. absurd (c.in-Err.ensures.ours is.schema).0,
   λ it named mine. absurd (c.in-Err.ensures.ours named).0,
 )
+
+pub returns-in-Ok-clause-begun : goal.returns-in-Ok-clause-begun
+returns-in-Ok-clause-begun g c =
+    begun_of c.in-Ok.made.0 c.args.site.now (state g.S.Store c.args.conn.now) (state g.S.Store c.prepare.new.conn) (state g.S.Store c.open_made.new.conn) g.F.Disk.Disk.seen c.in-Ok.made.1 c.in-Ok.ensures.found c.args.keeping c.in-Ok.ensures.begun c.open_made.result c.open_made.ensures.made c.open_made.ensures.shows

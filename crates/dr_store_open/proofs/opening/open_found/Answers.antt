@@ -1,9 +1,10 @@
 use Rattle.std.proofs.Common.{◌≡◌, sym, subst, arith}
+use Rattle.std.specs.Prelude.{IfSome}
 use Rattle.sqlite.specs.Effect.{Database}
 use Rattle.sqlite.specs.Held.{state}
 use Rattle.sqlite.specs.State.{HasCleanDisk}
 use Rattle.dr_store_open.specs.Faults.{IsOfData}
-use Rattle.dr_store_open.specs.Places.{IsAt}
+use Rattle.dr_store_open.specs.Places.{IsAt, ShowsFile}
 use Rattle.dr_store_open.proofs.Chains.{ready_not, ready_then}
 use Rattle.dr_store_open.proofs.Opens.{TestedIn, if_err_as, if_ok_as, not_in_rows, not_others, opened_own, still_now}
 use Rattle.dr_store_open.proofs.opening.open_found.Goals as goal
@@ -77,3 +78,9 @@ returns-in-Err-clause-why g c clean =
 
 pub returns-in-Err-clause-there : goal.returns-in-Err-clause-there
 returns-in-Err-clause-there g c = c.in-Err.ensures.why.1
+
+pub returns-in-Ok-clause-shows : goal.returns-in-Ok-clause-shows
+returns-in-Ok-clause-shows g c =
+    if_ok_as _ _ c.open_on.result
+    (λ it same. subst (λ s. IfSome c.args.made (λ disk. ShowsFile (g.F.Disk.Disk.seen disk) s)) (sym same) c.in-Ok.ensures.shows)
+    c.open_on.ensures.same

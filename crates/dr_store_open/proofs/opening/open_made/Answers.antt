@@ -1,6 +1,6 @@
 use Rattle.std.proofs.Common.{◌≡◌}
 use Rattle.sqlite.specs.Held.{state}
-use Rattle.dr_store_open.proofs.Opens.{is_made, made_why, whole_made, whole_refused}
+use Rattle.dr_store_open.proofs.Opens.{is_made, made_shows, made_why, whole_made, whole_refused}
 use Rattle.dr_store_open.proofs.opening.open_made.Goals as goal
 
 pub returns-in-Ok-clause-whole : goal.returns-in-Ok-clause-whole
@@ -16,3 +16,7 @@ returns-in-Ok-clause-there g c = made_why c.args.made.0 c.args.keeping c.in-Ok.o
 pub returns-in-Err-clause-whole : goal.returns-in-Err-clause-whole
 returns-in-Err-clause-whole g c =
     whole_refused _ c.args.site.now (state g.S.Store c.args.conn.now) (state g.S.Store c.find_ledger.new.conn) c.in-Err.fault c.in-Err.ensures.whole
+
+pub returns-in-Ok-clause-shows : goal.returns-in-Ok-clause-shows
+returns-in-Ok-clause-shows g c =
+    made_shows g.F.Disk.Disk.seen c.args.made.0 c.args.keeping c.args.made.1 c.in-Ok.opened c.as_made.result c.in-Ok.ensures.shows c.as_made.ensures

@@ -57,3 +57,11 @@ returns-clause-ours g c named = let it = c.renewed.ensures.ours named in (ours_a
 
 pub returns-clause-there : goal.returns-clause-there
 returns-clause-there g c = if_err_as _ _ c.renewed.result (λ fault beside e. absurd (beside (subst IsOfData (sym e) tt))) c.renewed.ensures.of_data
+
+pub returns-then-is_blank-clause-begun : goal.returns-then-is_blank-clause-begun
+returns-then-is_blank-clause-begun g c file =
+    if_ok_as _ _ c.make_new.result (λ it has was. has) (c.make_new.ensures.begun file)
+
+pub returns-clause-begun : goal.returns-clause-begun
+returns-clause-begun g c file =
+    if_ok_as _ _ c.renewed.result (λ it no yes. absurd (true≢false (sym yes ∙ no))) c.renewed.ensures.none

@@ -1,7 +1,7 @@
 use Rattle.std.proofs.Common.{◌≡◌, sym, subst}
 use Rattle.sqlite.specs.Held.{state}
 use Rattle.dr_store_open.proofs.Chains.{ready_still}
-use Rattle.dr_store_open.proofs.Opens.{file_used, if_ok_as}
+use Rattle.dr_store_open.proofs.Opens.{file_used, if_ok_as, no_file}
 use Rattle.dr_store_open.proofs.shelving.shelf_of.Goals as goal
 
 pub returns-in-InRows-clause-ready : goal.returns-in-InRows-clause-ready
@@ -16,3 +16,6 @@ returns-in-InFile-clause-used g c clean are =
     if_ok_as _ _ c.shelf_in_file.result
     (λ shelf it. file_used c.in-InFile.said db c.args.found.now.prints.items are it.0 it.1 shelf it.2)
     (c.shelf_in_file.ensures.file clean)
+
+pub returns-in-InRows-clause-shows : goal.returns-in-InRows-clause-shows
+returns-in-InRows-clause-shows g c = no_file c.args.made
