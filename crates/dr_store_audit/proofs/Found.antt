@@ -82,7 +82,7 @@ module _ (past : List Line) (n : ℕ) (part : Part) (db : Trees) (keys : List (T
   content_is : content_of (book_of db) ≡ c
   content_is = sym (all ∙ listed_is db keys prints arrivals kept rows notes goals are items stocks)
 
-  whole : Book
+  abbrev whole : Book
   whole = with_past past (book_of db)
 
   book_is : whole ≡ Fold (past ++ lines_told goals notes)

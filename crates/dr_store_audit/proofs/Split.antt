@@ -221,7 +221,7 @@ told_so routing before goals notes n ends over_there first told r goes under =
     elim ends [
       | inl nothing ↦ elim under [
         | inl journalled ↦ told_under routing before goals notes (take n notes) (drop n notes) (sym (whole_of n notes)) none first told r goes nothing journalled
-        | inr it ↦ absurd (nothing_over notes n it.0 it.1 nothing over_there it.2.0 it.2.1)
+        | inr it ↦ absurd (nothing_over notes n it.0 it.1 nothing over_there it.2 it.3)
       ]
       | inr it ↦ told_over routing before goals notes (take n notes) (drop n notes) (sym (whole_of n notes)) none first told r goes it.0 it.1 it.2
     ]

@@ -1,7 +1,7 @@
 -- A journal that was told is a ledger's.
 use Rattle.std.proofs.Common.{◌≡◌, inr, ℕ, List, [], ◌∷◌, ◌++◌, ap, subst, sym, ◌∙◌}
 use Rattle.std.proofs.lemmas.List.{append_assoc}
-use Rattle.dr_ledger.specs.Books.{Line}
+use Rattle.dr_ledger.specs.Books.{Adoption, Line}
 use Rattle.dr_ledger.specs.Histories.{IsBeforeAdoption}
 use Rattle.dr_ledger.specs.Routings.{Routing}
 use Rattle.dr_ledger_history.specs.Contents.{Content}
@@ -22,12 +22,12 @@ pub since_alike : {routing : Routing} {past lines others : List Line} {c : Conte
 since_alike {routing = routing} {past = past} {c = c} same told = subst (λ all. IsToldSince routing past all c) (sym same) told
 
 -- the same lines, behind others, with one more
-pub behind : (before : List Line) {all told : List Line} {line : Line} → all ≡ told ++ line ∷ [] → before ++ all ≡ (before ++ told) ++ line ∷ []
-behind before {told = told} {line = line} same = ap (λ xs. before ++ xs) same ∙ sym (append_assoc before told (line ∷ []))
+pub behind : (before : List Line) {all : List Line} (told : List Line) (line : Line) → all ≡ told ++ line ∷ [] → before ++ all ≡ (before ++ told) ++ line ∷ []
+behind before told line same = ap (λ xs. before ++ xs) same ∙ sym (append_assoc before told (line ∷ []))
 
 -- lines of notes that are over are over, behind whatever lines
 pub over : (before : List Line) (goals : List Goal) (notes : List (ℕ × JournalRow)) (earlier : List (ℕ × JournalRow)) (n : ℕ) → notes ≡ earlier ++ (n, note.Adoption) ∷ [] → IsBeforeAdoption (before ++ lines_told goals notes)
-over before goals notes earlier n same = inr (before ++ lines_told goals earlier, behind before (ap (lines_told goals) same ∙ lines_join goals earlier ((n, note.Adoption) ∷ [])))
+over before goals notes earlier n same = inr (before ++ lines_told goals earlier, behind before (lines_told goals earlier) Adoption (ap (lines_told goals) same ∙ lines_join goals earlier ((n, note.Adoption) ∷ [])))
 
 -- what was told in two parts
 pub told_all : (routing : Routing) (past since : List Line) (last : Content) → IsToldSince routing past since last → IsToldJournal routing (past ++ since) last

@@ -60,15 +60,10 @@ fn count_past(notes: &[(u64, JournalRow)]) -> usize
 pub fn count_up(first: u64, notes: &[(u64, JournalRow)]) -> bool
     ensures { IsTrue result ↔ CountUp first notes.now }
 {
-    let mut next = first;
-    for entry in notes {
-        if entry.0 != next {
+    for (i, entry) in notes.iter().enumerate() {
+        if entry.0 < first || entry.0 - first != i as u64 {
             return false;
         }
-        let Some(more) = next.checked_add(1) else {
-            return false;
-        };
-        next = more;
     }
     true
 }

@@ -18,7 +18,7 @@ loop-entry-preserved c =
     let e = take_more notes i entry c.loop-entry-test.true in
     let more : take (i + 1) notes ≡ take i notes ++ entry ∷ [] = rw (← c.entry-item.is) at e in
     let lines = ap (lines_told goals) more ∙ lines_join goals (take i notes) (entry ∷ []) ∙ ap (λ line. before ++ line ∷ []) (sym c.in_ok-line.ensures) in
-    λ begun is. told_alike (behind begun lines) (c.in-Ok.ensures (begun ++ before) (c.loop-entry.invariant begun is))
+    λ begun is. told_alike (behind begun before _ lines) (c.in-Ok.ensures (begun ++ before) (c.loop-entry.invariant begun is))
 
 pub returns-in-Err : goal.returns-in-Err
 returns-in-Err c begun other is past =
@@ -30,4 +30,4 @@ returns-in-Err c begun other is past =
     let e = take_more notes i entry c.loop-entry-test.true in
     let more : take (i + 1) notes ≡ take i notes ++ entry ∷ [] = rw (← c.entry-item.is) at e in
     let lines = ap (lines_told goals) more ∙ lines_join goals (take i notes) (entry ∷ []) ∙ ap (λ line. before ++ line ∷ []) (sym c.in_ok-line.ensures) in
-    c.in-Err.ensures (begun ++ before) other (c.loop-entry.invariant begun is) (subst (λ (all : List Line). IsPast all empty_book) (behind begun lines) (past_told begun goals notes (i + 1) empty_book past))
+    c.in-Err.ensures (begun ++ before) other (c.loop-entry.invariant begun is) (subst (λ (all : List Line). IsPast all empty_book) (behind begun before _ lines) (past_told begun goals notes (i + 1) empty_book past))

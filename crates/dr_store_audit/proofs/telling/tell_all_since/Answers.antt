@@ -19,7 +19,7 @@ loop-entry-preserved c =
     let e = take_more notes i entry c.loop-entry-test.true in
     let more : take (i + 1) notes ≡ take i notes ++ entry ∷ [] = rw (← c.entry-item.is) at e in
     let lines = ap (lines_told goals) more ∙ lines_join goals (take i notes) (entry ∷ []) ∙ ap (λ line. before ++ line ∷ []) (sym c.in_ok-line.ensures) in
-    λ past earlier told. since_alike (behind earlier lines) (c.in-Ok.ensures past (earlier ++ before) (c.loop-entry.invariant past earlier told))
+    λ past earlier told. since_alike (behind earlier before _ lines) (c.in-Ok.ensures past (earlier ++ before) (c.loop-entry.invariant past earlier told))
 
 pub returns-in-Err : goal.returns-in-Err
 returns-in-Err c past earlier other told history =
@@ -32,4 +32,4 @@ returns-in-Err c past earlier other told history =
     let e = take_more notes i entry c.loop-entry-test.true in
     let more : take (i + 1) notes ≡ take i notes ++ entry ∷ [] = rw (← c.entry-item.is) at e in
     let lines = ap (lines_told goals) more ∙ lines_join goals (take i notes) (entry ∷ []) ∙ ap (λ line. before ++ line ∷ []) (sym c.in_ok-line.ensures) in
-    c.in-Err.ensures past (earlier ++ before) other (c.loop-entry.invariant past earlier told) (subst (λ (all : List Line). IsHistory routing all (Fold past)) (behind earlier lines) (history_told routing earlier goals notes (i + 1) (Fold past) history))
+    c.in-Err.ensures past (earlier ++ before) other (c.loop-entry.invariant past earlier told) (subst (λ (all : List Line). IsHistory routing all (Fold past)) (behind earlier before _ lines) (history_told routing earlier goals notes (i + 1) (Fold past) history))
