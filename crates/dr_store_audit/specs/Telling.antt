@@ -30,7 +30,7 @@ abbrev pub GoOnUnder : Routing → List Line → List (ℕ × JournalRow) → Ty
 GoOnUnder routing before notes =
     IsJournalled routing (Fold before)
     ⊎ ((k : ℕ) × (d : ℕ × JournalRow) × (k < length notes)
-      × ((slice_index_or notes k d).1 ≡ note.Adoption))
+    × ((slice_index_or notes k d).1 ≡ note.Adoption))
 
 -- what a line that isn't taken says of the tables: where it is no call that is accepted, they are
 -- no ledger's of the site
