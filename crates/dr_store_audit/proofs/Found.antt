@@ -1,5 +1,5 @@
 -- What the lists of all tables show is a ledger's.
-use Rattle.std.proofs.Common.{◌≡◌, ◌≤◌, ◌<◌, ◌⊎◌, ℕ, List, Contains, Bool, true, false, Option, None, Some, is_some, refl, sym, ap, subst, ◌∙◌, arith, true≢false}
+use Rattle.std.proofs.Common.{◌≡◌, ◌≤◌, ◌<◌, ◌⊎◌, ◌+◌, ◌++◌, ℕ, List, length, Contains, Bool, true, false, Option, None, Some, is_some, refl, sym, ap, subst, ◌∙◌, arith, true≢false}
 use Rattle.std.specs.declared.cmp.Ordering.{Ordering}
 use Rattle.std.specs.Prelude.{◌↔◌, All}
 use Rattle.std.specs.Cmp.{eq_by_cmp_equiv}
@@ -18,8 +18,8 @@ use Rattle.dr_route.specs.declared.key.Key.{Key}
 use Rattle.dr_site.specs.Parts.{Part}
 use Rattle.dr_ledger.specs.declared.item.Instance.{Instance}
 use Rattle.dr_ledger.specs.declared.item.Progress.{Progress}
-use Rattle.dr_ledger.specs.Books.{Fold}
-use Rattle.dr_ledger.specs.Histories.{IsJournalled}
+use Rattle.dr_ledger.specs.Books.{Book, Fold, Line}
+use Rattle.dr_ledger.specs.Histories.{IsJournalled, IsSolid}
 use Rattle.dr_ledger.specs.Pairs.{Pair}
 use Rattle.dr_ledger.specs.Replies.{Lists}
 use Rattle.dr_ledger.specs.SiteRoutes.{site_routing}
@@ -28,6 +28,7 @@ use Rattle.dr_ledger.proofs.Maps.{IsExact, text_pairs, texts}
 use Rattle.dr_ledger.proofs.Solid.{journals_are_solid}
 use Rattle.dr_ledger_history.specs.Contents.{Content, all_of, content_of}
 use Rattle.dr_ledger_history.proofs.Telling.{all_but_the_lines}
+use Rattle.dr_ledger_past.specs.Pasts.{with_past}
 use Rattle.dr_store_schema.specs.Books.{all_kept_in, arrivals_in, book_of, names_in, rows_of}
 use Rattle.dr_store_writes.proofs.Maps.{equal}
 use Rattle.dr_store_reads.specs.declared.finding.Print.{Print}
@@ -69,18 +70,26 @@ module _ (db : Trees) (keys : List (Text × Key)) (prints : List (Text × Print)
     rows = (ap map.from_entries are.rows_are ∙ as_mapped text_pairs (rows_of db)) i;
   }
 
-module _ (n : ℕ) (part : Part) (db : Trees) (keys : List (Text × Key)) (prints : List (Text × Print)) (arrivals : List Pair) (kept : List Text) (rows : List (Pair × Progress)) (notes : List (ℕ × JournalRow)) (goals : List Goal)
+-- what holds of a book with a past before it holds of it alone
+solid_alone : (past : List Line) (b : Book) → IsSolid (with_past past b) → IsSolid b
+solid_alone past b is = record { named = is.named; arrived = is.arrived; kept = is.kept; rows = is.rows; figures = is.figures }
+
+module _ (past : List Line) (n : ℕ) (part : Part) (db : Trees) (keys : List (Text × Key)) (prints : List (Text × Print)) (arrivals : List Pair) (kept : List Text) (rows : List (Pair × Progress)) (notes : List (ℕ × JournalRow)) (goals : List Goal)
     (are : AreListsOf db keys prints arrivals kept rows notes goals) (items : FinMap text_cmp Instance) (stocks : Stocks map.empty keys prints items) (c : Content)
-    (journal : IsToldJournal (site_routing part) (lines_told goals notes) c) (all : c ≡ all_of items arrivals kept rows) (uids : FinSet text_cmp)
-    (are_needed : (q : Text) → (set.contains uids q ≡ true) ↔ (Contains kept q ⊎ IsOpenIn rows q)) (whole : AllByRecursion (λ (p : Text × Print). p.1.whole ≡ set.contains uids p.0) prints) (before : All (λ (g : Goal). g.0 < n) goals) where
+    (journal : IsToldJournal (site_routing part) (past ++ lines_told goals notes) c) (all : c ≡ all_of items arrivals kept rows) (uids : FinSet text_cmp)
+    (are_needed : (q : Text) → (set.contains uids q ≡ true) ↔ (Contains kept q ⊎ IsOpenIn rows q)) (each : AllByRecursion (λ (p : Text × Print). p.1.whole ≡ set.contains uids p.0) prints) (before : All (λ (g : Goal). g.0 < n) goals) where
   -- all but the lines
   content_is : content_of (book_of db) ≡ c
   content_is = sym (all ∙ listed_is db keys prints arrivals kept rows notes goals are items stocks)
 
-  book_is : book_of db ≡ Fold (lines_told goals notes)
-  book_is = all_but_the_lines (book_of db) (Fold (lines_told goals notes)) (content_is ∙ journal.fold) (lines_are db goals are.goals_are notes are.notes_are ∙ sym (folds_have_their_lines (lines_told goals notes)))
+  abbrev whole : Book
+  whole = with_past past (book_of db)
 
-  journalled : IsJournalled (site_routing part) (book_of db)
+  book_is : whole ≡ Fold (past ++ lines_told goals notes)
+  book_is = all_but_the_lines whole (Fold (past ++ lines_told goals notes)) (content_is ∙ journal.fold)
+      (ap (λ lines. past ++ lines) (lines_are db goals are.goals_are notes are.notes_are) ∙ sym (folds_have_their_lines (past ++ lines_told goals notes)))
+
+  journalled : IsJournalled (site_routing part) whole
   journalled = subst (IsJournalled (site_routing part)) (sym book_is) journal.journalled
 
   -- no line from n on goes anywhere
@@ -98,14 +107,14 @@ module _ (n : ℕ) (part : Part) (db : Trees) (keys : List (Text × Key)) (print
           absent false is = refl
           absent true is = let low = All-contains (λ (g : Goal). g.0 < n) goals (m, q) before ((are.goals_are.each (m, q)).1 is) in absurd (omega (arith, low, late))
 
-  found : IsFound n part db
+  found : IsFound past n part db
   found = record {
     ahead = nowhere;
     journalled = journalled;
-    there = there db prints kept rows uids are.prints_are are.kept_are are.rows_are (both_there db keys prints items are.keys_are are.prints_are stocks) are_needed whole (journals_are_solid (site_routing part) journalled.0 (book_of db) journalled.1);
+    there = there db prints kept rows uids are.prints_are are.kept_are are.rows_are (both_there db keys prints items are.keys_are are.prints_are stocks) are_needed each (solid_alone past (book_of db) (journals_are_solid (site_routing part) journalled.0 whole journalled.1));
   }
 
-  pub agreed : CountUp 1 notes → HoldTogether n part db notes
+  pub agreed : CountUp (length past + 1) notes → HoldTogether past n part db notes
   agreed numbered = record {
     found = found;
     together = both_there db keys prints items are.keys_are are.prints_are stocks;

@@ -10,4 +10,4 @@ mod Rising
 mod Split
 mod Stocked
 mod Together
-mod Told
+pub mod Told

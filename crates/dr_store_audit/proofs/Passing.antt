@@ -1,5 +1,5 @@
 -- Tables that are a ledger's pass each test.
-use Rattle.std.proofs.Common.{◌≡◌, ◌≤◌, ◌<◌, ◌⊎◌, ℕ, zero, suc, List, [], ◌∷◌, length, Contains, Bool, true, false, T, Option, None, Some, is_some, cond, leb, leb-false, leb-true, option_map, unwrap_or, refl, sym, ap, subst, ◌∙◌, arith, true≢false}
+use Rattle.std.proofs.Common.{◌≡◌, ◌≤◌, ◌<◌, ◌⊎◌, ◌++◌, ℕ, zero, suc, List, [], ◌∷◌, length, Contains, Bool, true, false, T, Option, None, Some, is_some, cond, leb, leb-false, leb-true, option_map, unwrap_or, refl, sym, ap, subst, ◌∙◌, arith, true≢false}
 use Rattle.std.specs.Prelude.{◌↔◌, All, Err, slice_index_or}
 use Rattle.std.specs.declared.cmp.Ordering.{Ordering}
 use Rattle.std.specs.declared.cmp.Ordering.TheVariants.{Less, Equal, Greater}
@@ -21,12 +21,13 @@ use Rattle.dr_site.specs.Parts.{Part}
 use Rattle.dr_plan_model.proofs.Gathered.{Contains-here, Contains-there}
 use Rattle.dr_ledger.specs.declared.item.Instance.{Instance}
 use Rattle.dr_ledger.specs.declared.item.Progress.{Progress}
-use Rattle.dr_ledger.specs.Books.{Fold}
+use Rattle.dr_ledger.specs.Books.{Fold, Line}
 use Rattle.dr_ledger.specs.Pairs.{Pair, pair_cmp}
 use Rattle.dr_ledger.specs.SiteRoutes.{site_routing}
 use Rattle.dr_ledger.proofs.Maps.{IsExact, text_pairs, texts}
 use Rattle.dr_ledger_history.specs.Contents.{AreListsInOrder, Content, all_of, content_of}
-use Rattle.dr_store_schema.specs.Books.{book_of, contents_in, is_whole, names_in, rows_of, wholes_in}
+use Rattle.dr_ledger_past.specs.Pasts.{with_past}
+use Rattle.dr_store_schema.specs.Books.{book_of, contents_in, is_whole, lines_of, names_in, rows_of, wholes_in}
 use Rattle.dr_store_changes.proofs.LettingGo.{body_at}
 use Rattle.dr_store_reads.specs.declared.finding.Print.{Print}
 use Rattle.dr_store_lists.specs.declared.listing.JournalRow.{JournalRow}
@@ -130,16 +131,19 @@ refused finding.Memory P not = tt
 
 -- ---- each test
 
-module _ (n : ℕ) (part : Part) (db : Trees) (keys : List (Text × Key)) (prints : List (Text × Print)) (arrivals : List Pair) (kept : List Text) (rows : List (Pair × Progress)) (notes : List (ℕ × JournalRow)) (goals : List Goal)
-    (are : AreListsOf db keys prints arrivals kept rows notes goals) (agreed : HoldTogether n part db notes) where
+module _ (past : List Line) (n : ℕ) (part : Part) (db : Trees) (keys : List (Text × Key)) (prints : List (Text × Print)) (arrivals : List Pair) (kept : List Text) (rows : List (Pair × Progress)) (notes : List (ℕ × JournalRow)) (goals : List Goal)
+    (are : AreListsOf db keys prints arrivals kept rows notes goals) (agreed : HoldTogether past n part db notes) where
   pub goals_by_line : AreByLine goals
   goals_by_line = by_line goals are.goals_are.ordered
 
   pub one_order : fields_of keys ≡ fields_of prints
   one_order = ap fields_of are.keys_are ∙ same_keys_listed texts (keys_of db) (whole_prints_of db) agreed.together ∙ ap fields_of (sym are.prints_are)
 
-  pub is_a_journal : IsNoJournal (site_routing part) (lines_told goals notes) → ⊥
-  is_a_journal none = none (book_of db) agreed.found.journalled (lines_are db goals are.goals_are notes are.notes_are)
+  all_lines : past ++ lines_of db ≡ past ++ lines_told goals notes
+  all_lines = ap (λ lines. past ++ lines) (lines_are db goals are.goals_are notes are.notes_are)
+
+  pub is_a_journal : IsNoJournal (site_routing part) (past ++ lines_told goals notes) → ⊥
+  is_a_journal none = none (with_past past (book_of db)) agreed.found.journalled all_lines
 
   pub in_order : AreListsInOrder arrivals kept rows
   in_order = record {
@@ -148,9 +152,9 @@ module _ (n : ℕ) (part : Part) (db : Trees) (keys : List (Text × Key)) (print
     rows_rise = subst (λ es. IsStrictlySortedBy pair_cmp (fields_of es)) (sym are.rows_are) (entries_rise text_pairs (map.entries (rows_of db)) (map.entries_sorted (rows_of db)));
   }
 
-  pub told_is_listed : (items : FinMap text_cmp Instance) (c : Content) → Stocks map.empty keys prints items → IsToldJournal (site_routing part) (lines_told goals notes) c → c ≡ all_of items arrivals kept rows
+  pub told_is_listed : (items : FinMap text_cmp Instance) (c : Content) → Stocks map.empty keys prints items → IsToldJournal (site_routing part) (past ++ lines_told goals notes) c → c ≡ all_of items arrivals kept rows
   told_is_listed items c stocks told =
-      let book : Fold (lines_told goals notes) ≡ book_of db = ap Fold (sym (lines_are db goals are.goals_are notes are.notes_are)) ∙ sym agreed.found.journalled.1.fold in
+      let book : Fold (past ++ lines_told goals notes) ≡ with_past past (book_of db) = ap Fold (sym all_lines) ∙ sym agreed.found.journalled.1.fold in
       told.fold ∙ ap content_of book ∙ sym (listed_is db keys prints arrivals kept rows notes goals are items stocks)
 
   pub lines_before : All (λ (goal : Goal). goal.0 < n) goals

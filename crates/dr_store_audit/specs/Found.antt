@@ -1,5 +1,5 @@
 -- What is found to be a ledger's.
-use Rattle.std.specs.Prelude.{◌≡◌, ◌↔◌, ℕ, List, Some, Result, Ok, Err, is_some}
+use Rattle.std.specs.Prelude.{◌≡◌, ◌↔◌, ◌+◌, ℕ, List, Some, Result, Ok, Err, is_some, length}
 use Rattle.std.specs.FinMap as map
 use Rattle.sqlite.specs.Tree.{Trees}
 use Rattle.dr_base.specs.Texts.{Text, text_cmp}
@@ -7,10 +7,12 @@ use Rattle.dr_route.specs.declared.key.Key.{Key}
 use Rattle.dr_site.specs.Parts.{Part}
 use Rattle.dr_ledger.specs.declared.item.Progress.{Progress}
 use Rattle.dr_ledger.specs.Bodies.{IsNeeded}
+use Rattle.dr_ledger.specs.Books.{Line}
 use Rattle.dr_ledger.specs.Histories.{IsJournalled}
 use Rattle.dr_ledger.specs.Pairs.{Pair, pair_cmp}
 use Rattle.dr_ledger.specs.Replies.{Lists}
 use Rattle.dr_ledger.specs.SiteRoutes.{site_routing}
+use Rattle.dr_ledger_past.specs.Pasts.{with_past}
 use Rattle.dr_store_schema.specs.Books.{all_kept_in, arrivals_in, bodies_of, book_of, rows_of}
 use Rattle.dr_store_reads.specs.declared.finding.Print.{Print}
 use Rattle.dr_store_lists.specs.declared.listing.JournalRow.{JournalRow}
@@ -33,22 +35,22 @@ pub record AreListsOf (db : Trees) (keys : List (Text × Key)) (prints : List (T
   pub notes_are : IsJournal db notes
   pub goals_are : Lists goal_cmp (goals_of db) goals
 
--- The tables are those of a ledger of that site, whose next line has number n, but for what their
--- data sets are.
-pub record IsFound (n : ℕ) (part : Part) (db : Trees) : Type 0 where
+-- The tables are those of a ledger of that site that has this past, and whose next line has number
+-- n, but for what their data sets are.
+pub record IsFound (past : List Line) (n : ℕ) (part : Part) (db : Trees) : Type 0 where
   pub ahead : GoNowhere n db
-  pub journalled : IsJournalled (site_routing part) (book_of db)
+  pub journalled : IsJournalled (site_routing part) (with_past past (book_of db))
   pub there : (uid : Text)
       → ((body : List ℕ) × (map.get (bodies_of db) uid ≡ Some body)) ↔ IsNeeded (book_of db) uid
 
--- The tables hold together: they are a ledger's, each instance has its key and its print, and the
--- lines, which these notes say, are numbered from 1 on.
-pub record HoldTogether (n : ℕ) (part : Part) (db : Trees)
+-- The tables hold together: they are a ledger's that has this past, each instance has its key and
+-- its print, and the numbers of the lines, which these notes say, go on from those of the past.
+pub record HoldTogether (past : List Line) (n : ℕ) (part : Part) (db : Trees)
     (notes : List (ℕ × JournalRow)) : Type 0 where
-  pub found : IsFound n part db
+  pub found : IsFound past n part db
   pub together : (uid : Text)
       → is_some (map.get (keys_of db) uid) ≡ is_some (map.get (whole_prints_of db) uid)
-  pub numbered : CountUp 1 notes
+  pub numbered : CountUp (length past + 1) notes
 
 -- whether tables agree: it is said so where they do, and the site is another one's only where they
 -- don't

@@ -1,3 +1,4 @@
+pub mod Begun
 pub mod Found
 pub mod Goals
 pub mod Journal

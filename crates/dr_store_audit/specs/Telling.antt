@@ -24,6 +24,14 @@ NoneIsOver from notes =
     (k : ℕ) (d : ℕ × JournalRow)
     → from ≤ k → k < length notes → (slice_index_or notes k d).1 ≢ note.Adoption
 
+-- Behind these lines the notes go on under that routing: those lines are a journal under it, or one
+-- of the notes adopts a plan.
+abbrev pub GoOnUnder : Routing → List Line → List (ℕ × JournalRow) → Type 0
+GoOnUnder routing before notes =
+    IsJournalled routing (Fold before)
+    ⊎ ((k : ℕ) × (d : ℕ × JournalRow) × (k < length notes)
+    × ((slice_index_or notes k d).1 ≡ note.Adoption))
+
 -- what a line that isn't taken says of the tables: where it is no call that is accepted, they are
 -- no ledger's of the site
 abbrev pub finding_by : HistoryFault → FindingFault

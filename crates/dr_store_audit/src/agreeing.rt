@@ -1,7 +1,13 @@
 //! Whether the lists of all tables are those of a ledger.
+ghost use Rattle.std.specs.Prelude.{List};
 ghost use Rattle.sqlite.specs.Tree.{Trees};
+ghost use Rattle.dr_ledger.specs.Books.{Line};
+ghost use Rattle.dr_ledger.specs.SiteRoutes.{site_routing};
+ghost use Rattle.dr_store_audit.specs.Begun.{HasBegun};
 ghost use Rattle.dr_store_audit.specs.Found.{AgreesAs, AreListsOf, HoldTogether};
+ghost use Rattle.dr_store_audit.specs.Telling.{GoOnUnder};
 
+use crate::begun::Begun;
 use crate::fault::FindingFault;
 use crate::goals::{are_before, are_by_line};
 use crate::needs::{are_whole, needed};
@@ -35,20 +41,23 @@ pub struct TableLists<'x> {
 }
 
 /// Tests that the lists of all tables are those of a ledger of the site, whose next line has this
-/// number: that the journal is one of its ledger, that all else is what its lines make, and that
-/// just the data sets are there that are needed.
+/// number: that its past and the journal behind it are one of its ledger, that all else is what
+/// these lines make, and that just the data sets are there that are needed.
 ///
 /// Errors: OtherSite, only where they aren't; Memory.
 pub fn agree(
     alloc: Global,
     site: &Site,
     lists: &TableLists<'_>,
+    begun: Begun,
     next: u64,
 ) -> Result<(), FindingFault>
-    ensures { (db : Trees)
+    ensures { (db : Trees) (past : List Line)
+        → HasBegun past begun
+        → GoOnUnder (site_routing site.now) past lists.now.notes.now
         → AreListsOf db lists.now.keys.now lists.now.prints.now lists.now.arrivals.now
         lists.now.kept.now lists.now.rows.now lists.now.notes.now lists.now.goals.now
-        → AgreesAs result (HoldTogether next site.now db lists.now.notes.now) }
+        → AgreesAs result (HoldTogether past next site.now db lists.now.notes.now) }
 {
     if !are_by_line(lists.goals) {
         return Err(FindingFault::OtherSite);
@@ -57,7 +66,7 @@ pub fn agree(
         Ok(items) => items,
         Err(fault) => return Err(fault),
     };
-    let history = match tell(alloc, site, lists.goals, lists.notes) {
+    let history = match tell(alloc, site, lists.goals, lists.notes, begun.history) {
         Ok(history) => history,
         Err(fault) => return Err(fault),
     };
@@ -71,7 +80,7 @@ pub fn agree(
     if !are_whole(lists.prints, &uids) {
         return Err(FindingFault::OtherSite);
     }
-    if !are_before(lists.goals, next) || !count_up(lists.notes) {
+    if !are_before(lists.goals, next) || !count_up(begun.first, lists.notes) {
         return Err(FindingFault::OtherSite);
     }
     Ok(())

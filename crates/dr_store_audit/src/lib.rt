@@ -3,6 +3,7 @@
 #![tactic(auto)]
 
 mod agreeing;
+mod begun;
 mod fault;
 pub mod goals;
 pub mod laws;
@@ -14,6 +15,7 @@ pub mod stock;
 mod telling;
 
 pub use agreeing::{TableLists, agree};
+pub use begun::Begun;
 pub use fault::FindingFault;
 pub use older::{Lacks, lacking};
 pub use schema::is_ours;

@@ -10,8 +10,8 @@ ghost use Rattle.dr_ledger_history.specs.Told.{IsTold, IsToldSince};
 ghost use Rattle.dr_store_lists.specs.declared.listing.JournalRow.TheVariants as noted;
 ghost use Rattle.dr_store_audit.specs.Goals.{AreByLine};
 ghost use Rattle.dr_store_audit.specs.Journal.{CountUp, lines_told};
-ghost use Rattle.dr_store_audit.specs.Telling.{IsNoJournal, EndsAtAdoption, IsToldJournal};
-ghost use Rattle.dr_store_audit.specs.Telling.{NoneIsOver};
+ghost use Rattle.dr_store_audit.specs.Telling.{EndsAtAdoption, GoOnUnder, IsNoJournal};
+ghost use Rattle.dr_store_audit.specs.Telling.{IsToldJournal, NoneIsOver};
 ghost use Rattle.dr_store_audit.specs.declared.fault.FindingFault.TheVariants as finding;
 
 use crate::fault::{FindingFault, of_history};
@@ -56,19 +56,14 @@ fn count_past(notes: &[(u64, JournalRow)]) -> usize
     end
 }
 
-/// Whether the lines' numbers count up from 1.
-pub fn count_up(notes: &[(u64, JournalRow)]) -> bool
-    ensures { IsTrue result ↔ CountUp 1 notes.now }
+/// Whether the lines' numbers count up from this one.
+pub fn count_up(first: u64, notes: &[(u64, JournalRow)]) -> bool
+    ensures { IsTrue result ↔ CountUp first notes.now }
 {
-    let mut next: u64 = 1;
-    for entry in notes {
-        if entry.0 != next {
+    for (i, entry) in notes.iter().enumerate() {
+        if entry.0 < first || entry.0 - first != i as u64 {
             return false;
         }
-        let Some(more) = next.checked_add(1) else {
-            return false;
-        };
-        next = more;
     }
     true
 }
@@ -111,21 +106,26 @@ fn tell_since(history: History, site: &Site, line: JournalLine) -> Result<Histor
     }
 }
 
-/// What these lines make, whose plans may be gone.
+/// What these lines make, whose plans may be gone, behind what was told before.
 ///
-/// Errors: OtherSite, only where they are no past; Memory.
+/// Errors: OtherSite, only where they are no past with that; Memory.
 fn tell_all_past(
     alloc: Global,
     goals: &[(u64, Text)],
     notes: &[(u64, JournalRow)],
+    begun: History,
 ) -> Result<History, FindingFault>
     requires { AreByLine goals.now }
     ensures { MatchResult result
-        (λ h. IsTold (lines_told goals.now notes.now) (content h.parts))
-        (λ fault. fault ≡ finding.OtherSite
-        → IsPast (lines_told goals.now notes.now) empty_book → ⊥) }
+        (λ h. (before : List Line)
+        → IsTold before (content begun.parts)
+        → IsTold (before ++ lines_told goals.now notes.now) (content h.parts))
+        (λ fault. (before : List Line)
+        → fault ≡ finding.OtherSite
+        → IsTold before (content begun.parts)
+        → IsPast (before ++ lines_told goals.now notes.now) empty_book → ⊥) }
 {
-    let mut history = History::new(alloc);
+    let mut history = begun;
     for entry in notes {
         let line = line_for(alloc, goals, entry.0, &entry.1)?;
         history = match tell_past(history, line) {
@@ -138,26 +138,27 @@ fn tell_all_past(
 
 /// What these lines make besides, which the node of this site added.
 ///
-/// Errors: OtherSite, only where they are no history behind that past; Memory.
+/// Errors: OtherSite, only where they are no history behind what was told; Memory.
 fn tell_all_since(
     alloc: Global,
     site: &Site,
     goals: &[(u64, Text)],
     notes: &[(u64, JournalRow)],
-    told: History,
+    begun: History,
 ) -> Result<History, FindingFault>
     requires { AreByLine goals.now }
     ensures { MatchResult result
-        (λ h. (past : List Line)
-        → IsToldSince (site_routing site.now) past [] (content told.parts)
-        → IsToldSince (site_routing site.now) past (lines_told goals.now notes.now)
+        (λ h. (past earlier : List Line)
+        → IsToldSince (site_routing site.now) past earlier (content begun.parts)
+        → IsToldSince (site_routing site.now) past (earlier ++ lines_told goals.now notes.now)
         (content h.parts))
-        (λ fault. (past : List Line)
+        (λ fault. (past earlier : List Line)
         → fault ≡ finding.OtherSite
-        → IsToldSince (site_routing site.now) past [] (content told.parts)
-        → IsHistory (site_routing site.now) (lines_told goals.now notes.now) (Fold past) → ⊥) }
+        → IsToldSince (site_routing site.now) past earlier (content begun.parts)
+        → IsHistory (site_routing site.now) (earlier ++ lines_told goals.now notes.now)
+        (Fold past) → ⊥) }
 {
-    let mut history = told;
+    let mut history = begun;
     for entry in notes {
         let line = line_for(alloc, goals, entry.0, &entry.1)?;
         history = match tell_since(history, site, line) {
@@ -168,8 +169,8 @@ fn tell_all_since(
     Ok(history)
 }
 
-/// What the whole journal makes, if it is one of this site's ledger. The goals are in the order of
-/// their lines.
+/// What the whole journal makes, if it is one of this site's ledger: `begun` is what the lines
+/// before these made, and the goals are in the order of their lines.
 ///
 /// Errors: OtherSite, only where it is none; Memory.
 pub fn tell(
@@ -177,16 +178,20 @@ pub fn tell(
     site: &Site,
     goals: &[(u64, Text)],
     notes: &[(u64, JournalRow)],
+    begun: History,
 ) -> Result<History, FindingFault>
     requires { AreByLine goals.now }
-    ensures { MatchResult result
-        (λ h. IsToldJournal (site_routing site.now) (lines_told goals.now notes.now)
+    ensures { (before : List Line)
+        → IsTold before (content begun.parts)
+        → GoOnUnder (site_routing site.now) before notes.now
+        → MatchResult result
+        (λ h. IsToldJournal (site_routing site.now) (before ++ lines_told goals.now notes.now)
         (content h.parts))
         (λ fault. fault ≡ finding.OtherSite
-        → IsNoJournal (site_routing site.now) (lines_told goals.now notes.now)) }
+        → IsNoJournal (site_routing site.now) (before ++ lines_told goals.now notes.now)) }
 {
     let (past, since) = notes.split_at(count_past(notes));
-    match tell_all_past(alloc, goals, past) {
+    match tell_all_past(alloc, goals, past, begun) {
         Ok(told) => tell_all_since(alloc, site, goals, since, told),
         Err(fault) => Err(fault),
     }

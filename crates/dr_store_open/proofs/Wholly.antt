@@ -70,23 +70,23 @@ lines_counted db notes journal =
 -- what was compared
 pub agreed : (part : Part) (db : Trees) (notes : List (ℕ × JournalRow))
     (next m : ℕ) → IsJournal db notes
-    → next ≡ length notes + 1 → AreBelow m (db 11) → HoldTogether next part db notes
+    → next ≡ length notes + 1 → AreBelow m (db 11) → HoldTogether [] next part db notes
     → IsAgreed next part db
 agreed part db notes next m journal after low hold = record {
   next = after ∙ ap (λ k. k + 1) (lines_counted db notes journal);
   below = subst (λ k. AreBelow k (db 11)) (sym after) (all_below m notes hold.numbered (db 11) low journal.each);
-  hold = subst (HoldTogether next part db) journal.notes hold;
+  hold = subst (HoldTogether [] next part db) journal.notes hold;
 }
 
 -- lists that don't hold together are no ledger's
 pub not_agreed : (part : Part) (db : Trees) (notes : List (ℕ × JournalRow)) (next : ℕ)
-    → IsJournal db notes → next ≡ length notes + 1 → (HoldTogether next part db notes → ⊥)
+    → IsJournal db notes → next ≡ length notes + 1 → (HoldTogether [] next part db notes → ⊥)
     → (n : ℕ) → IsAgreed n part db → ⊥
 not_agreed part db notes next journal after apart n is =
     let same : n ≡ next =
     is.next ∙ ap (λ k. k + 1) (sym (lines_counted db notes journal)) ∙ sym after in
-    apart (subst (λ k. HoldTogether k part db notes) same
-    (subst (HoldTogether n part db) (sym journal.notes) is.hold))
+    apart (subst (λ k. HoldTogether [] k part db notes) same
+    (subst (HoldTogether [] n part db) (sym journal.notes) is.hold))
 
 pub whole_if : (part : Part) (place : DataPlace) (db : Trees) (found : Option FoundTables)
     → IsAgreedIf part place db found → IsPlaceOf part db place → HaveAllLines db → IsWholeIf part db found

@@ -67,7 +67,7 @@ IsNext n db = n ≡ length (lines_of db) + 1
 pub record IsAgreed (n : ℕ) (part : Part) (db : Trees) : Type 0 where
   pub next : IsNext n db
   pub below : AreBelow n (db 11)
-  pub hold : HoldTogether n part db (map.entries (notes_of db))
+  pub hold : HoldTogether [] n part db (map.entries (notes_of db))
 
 -- What is found in the tables of a ledger of that site: the number of its next line, where its data
 -- sets are, and all prints.

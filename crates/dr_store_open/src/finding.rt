@@ -1,5 +1,5 @@
 //! Tables that are found.
-ghost use Rattle.std.specs.Prelude.{◌≡◌, ◌↔◌, ◌+◌, IsTrue, MatchOption, length};
+ghost use Rattle.std.specs.Prelude.{◌≡◌, ◌↔◌, ◌+◌, IsTrue, MatchOption, [], length};
 ghost use Rattle.sqlite.specs.Held.{state};
 ghost use Rattle.sqlite.specs.Tree.{Trees};
 ghost use Rattle.dr_ledger.specs.Replies.{Reads};
@@ -18,7 +18,7 @@ use crate::listed::{Journal, Stock, WholeLists, list_all};
 use dr_base::Text;
 use dr_ledger::LedgerFault;
 use dr_site::Site;
-use dr_store_audit::{FindingFault, TableLists, agree};
+use dr_store_audit::{Begun, FindingFault, TableLists, agree};
 use dr_store_calls::mark_for;
 use dr_store_data::mark_in;
 use dr_store_reads::{Owner, Print, find_owner};
@@ -127,7 +127,7 @@ fn prints_of(lists: WholeLists) -> Vec<(Text, Print)>
 fn agree_all(alloc: Global, site: &Site, lists: &WholeLists, next: u64) -> Result<(), FindingFault>
     ensures { (db : Trees)
         → AreWholeListsOf db lists.now
-        → AgreesAs result (HoldTogether next site.now db lists.now.journal.notes.items) }
+        → AgreesAs result (HoldTogether [] next site.now db lists.now.journal.notes.items) }
 {
     let tables = TableLists {
         keys: lists.stock.keys.as_slice(),
@@ -138,7 +138,7 @@ fn agree_all(alloc: Global, site: &Site, lists: &WholeLists, next: u64) -> Resul
         notes: lists.journal.notes.as_slice(),
         goals: lists.journal.goals.as_slice(),
     };
-    agree(alloc, site, &tables, next)
+    agree(alloc, site, &tables, Begun::new(alloc), next)
 }
 
 /// Compares all lists with what the journal's lines make, where the owner's row says that place.

@@ -21,7 +21,7 @@ use dr_base::Text;
 use dr_ledger::Instance;
 use dr_site::Site;
 use dr_store_audit::stock::stock_all;
-use dr_store_audit::{Lacks, TableLists, agree, lacking};
+use dr_store_audit::{Begun, Lacks, TableLists, agree, lacking};
 use dr_store_lists::JournalRow;
 use dr_store_reads::Print;
 use dr_store_writes::{add_print, add_target, set_body};
@@ -62,7 +62,7 @@ fn test(
         notes,
         goals,
     };
-    match agree(alloc, site, &lists, next) {
+    match agree(alloc, site, &lists, Begun::new(alloc), next) {
         Ok(()) => Ok(()),
         Err(fault) => Err(of_finding(fault)),
     }

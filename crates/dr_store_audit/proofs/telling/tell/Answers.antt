@@ -1,28 +1,25 @@
-use Rattle.std.proofs.Common.{◌≡◌, drop, subst, sym}
-use Rattle.std.specs.Prelude.{MatchResult}
+use Rattle.std.proofs.Common.{◌++◌, subst, sym}
+use Rattle.dr_ledger.specs.Books.{empty_book}
+use Rattle.dr_ledger.specs.Histories.{IsPast}
 use Rattle.dr_ledger.specs.SiteRoutes.{site_routing}
 use Rattle.dr_ledger_history.specs.Contents.{content}
+use Rattle.dr_ledger_history.specs.Told.{IsTold}
 use Rattle.dr_store_audit.specs.Journal.{lines_told}
-use Rattle.dr_store_audit.specs.Telling.{IsNoJournal, EndsAtAdoption, IsToldJournal}
-use Rattle.dr_store_audit.specs.declared.fault.FindingFault.TheVariants as finding
-use Rattle.dr_store_audit.proofs.Split.{NoneAdopts, no_journal, none_behind, none_told, told_by}
+use Rattle.dr_store_audit.proofs.Split.{ToldSince, no_past, told_so}
 use Rattle.dr_store_audit.proofs.telling.tell.Goals as goal
 
 pub returns-in-Ok : goal.returns-in-Ok
-returns-in-Ok c =
+returns-in-Ok c = λ before begun under.
     let routing = site_routing c.args.site.now in
     let goals = c.args.goals.now in
+    let first = content c.in-Ok.told.parts in
     let r = c.tell_all_since.result in
-    let none = none_told goals (drop c.count_past.result c.args.notes.now) (none_behind c.args.notes.now c.count_past.result c.count_past.ensures.since) in
-    subst (λ notes. MatchResult r (λ h. IsToldJournal routing (lines_told goals notes) (content h.parts)) (λ fault. fault ≡ finding.OtherSite → IsNoJournal routing (lines_told goals notes))) (sym c.split_at.ensures.by_index.0)
-    (told_by routing goals c.split_at.result.0.now c.split_at.result.1.now (content c.in-Ok.told.parts) (subst EndsAtAdoption (sym c.split_at.ensures.front) c.count_past.ensures.over)
-    (subst (λ notes. NoneAdopts (lines_told goals notes)) (sym c.split_at.ensures.back) none) c.in-Ok.ensures r c.tell_all_since.ensures)
+    told_so routing before goals c.args.notes.now c.count_past.result c.count_past.ensures.over c.count_past.ensures.since first
+    (subst (λ notes. IsTold (before ++ lines_told goals notes) first) c.split_at.ensures.front (c.in-Ok.ensures before begun))
+    r (subst (λ notes. ToldSince routing (lines_told goals notes) first r) c.split_at.ensures.back c.tell_all_since.ensures) under
 
 pub returns-in-Err : goal.returns-in-Err
-returns-in-Err c other =
-    let routing = site_routing c.args.site.now in
+returns-in-Err c = λ before begun under other.
     let goals = c.args.goals.now in
-    let none = none_told goals (drop c.count_past.result c.args.notes.now) (none_behind c.args.notes.now c.count_past.result c.count_past.ensures.since) in
-    subst (λ notes. IsNoJournal routing (lines_told goals notes)) (sym c.split_at.ensures.by_index.0)
-    (no_journal routing goals c.split_at.result.0.now c.split_at.result.1.now (subst EndsAtAdoption (sym c.split_at.ensures.front) c.count_past.ensures.over)
-    (subst (λ notes. NoneAdopts (lines_told goals notes)) (sym c.split_at.ensures.back) none) (λ past _. c.in-Err.ensures other past))
+    no_past (site_routing c.args.site.now) before goals c.args.notes.now c.count_past.result c.count_past.ensures.over c.count_past.ensures.since (content c.args.begun.parts) begun
+    (λ past. c.in-Err.ensures before other begun (subst (λ notes. IsPast (before ++ lines_told goals notes) empty_book) (sym c.split_at.ensures.front) past))

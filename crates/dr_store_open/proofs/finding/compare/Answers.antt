@@ -1,4 +1,4 @@
-use Rattle.std.proofs.Common.{◌≡◌, ◌∙◌, ℕ, Err, Global, Vec, ap, subst}
+use Rattle.std.proofs.Common.{[], ◌≡◌, ◌∙◌, ℕ, Err, Global, Vec, ap, subst}
 use Rattle.dr_base.specs.Texts.{Text}
 use Rattle.dr_store_reads.specs.declared.finding.Print.{Print}
 use Rattle.dr_store_audit.specs.Found.{AgreesAs, HoldTogether}
@@ -22,5 +22,5 @@ returns-in-Err-OtherSite c db lists =
     let part = c.args.site.now in
     let notes = c.args.lists.journal.notes.items in
     let next = c.number_after-next.result in
-    let If : FindingFault → Type 0 = λ why. AgreesAs (Err why) (HoldTogether next part db notes) in
+    let If : FindingFault → Type 0 = λ why. AgreesAs (Err why) (HoldTogether [] next part db notes) in
     not_agreed part db notes next lists.journal.notes c.number_after-next.ensures (subst If c.in-Err-OtherSite.field-0-is (c.in-Err-OtherSite.ensures db lists))
