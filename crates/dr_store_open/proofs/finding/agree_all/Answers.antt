@@ -13,7 +13,7 @@ use Rattle.dr_store_open.proofs.finding.agree_all.Goals as goal
 pub returns : goal.returns
 returns c = λ db lists.
     let As : List (ℕ × JournalRow) → Type 0 = λ notes. AgreesAs c.agree.result (HoldTogether [] c.args.next c.args.site.now db notes) in
-    subst As c.as_slice-6.ensures.value (c.agree.ensures db [] c.new.ensures (from_the_first (site_routing c.args.site.now) c.args.lists.now.journal.notes.items) (record {
+    subst As c.as_slice-6.ensures.value (c.agree.ensures db [] c.new.ensures (from_the_first (site_routing c.args.site.now) c.as_slice-6.result.now) (record {
       keys_are = c.as_slice.ensures.value ∙ lists.stock.keys;
       prints_are = c.as_slice-2.ensures.value ∙ lists.stock.prints;
       arrivals_are = subst (Lists pair_cmp (arrivals_in (db 5))) (sym c.as_slice-3.ensures.value) lists.stock.arrivals;
