@@ -41,7 +41,7 @@ kept_or_before part old new left older db h = elim (left db h) [
 
 -- what a new ledger shows
 shows_new : (part : Part) (db : Database) → IsMadeBy part db → ShowsNewLedger part db
-shows_new part db (mark, cell, plan, made) = record {
+shows_new part db (mark, (cell, plan, made)) = record {
   row = made.owner.0;
   mark = mark;
   marked = plan.marked;
