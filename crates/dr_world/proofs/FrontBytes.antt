@@ -67,6 +67,10 @@ module _ (kept wire : List ℕ) (size : ℕ) (tells : TellsLength (kept ++ wire)
         absurd (let h = sized p left rest joined wire_is fits in let w = ap (λ (t : List ℕ). length t) wire_is ∙ length-append left rest in omega (arith, h, w, short)),
   )
 
+  -- the length field tells of a last byte that is on the wire
+  pub told_there : length kept < size → (size - length kept ≡ length wire) ⊎ TellsLength (kept ++ wire) (length kept + (size - length kept))
+  told_there more = inr (subst (λ (n : ℕ). TellsLength (kept ++ wire) n) (omega (arith, more)) tells)
+
   pub left_there : length kept < size → size - length kept ≤ length wire → IsLeftOf kept wire (size - length kept)
   left_there more there = (there, (λ some. omega (arith, more)), λ p left rest joined some wire_is fits. (let h = sized p left rest joined wire_is fits in omega (arith, h)))
 

@@ -1,5 +1,5 @@
 //! How many of the bytes that are on their way to a reader may come to it at once.
-ghost use Rattle.std.specs.Prelude.{◌≡◌, ◌++◌, get_or};
+ghost use Rattle.std.specs.Prelude.{◌≡◌, ◌⊎◌, ◌+◌, ◌++◌, get_or, length};
 ghost use Rattle.dr_world.specs.Moved.{IsLeftOf, IsMovable, TellsLength};
 
 /// What a Move of bytes finds to do at its reader.
@@ -43,7 +43,9 @@ fn length_of_front(kept: &[u8], wire: &[u8]) -> usize
 /// How many bytes of a wire belong to the PDU at the front, whose first bytes the reader keeps. All
 /// of them where the PDU's last byte isn't there.
 fn left_of(kept: &[u8], wire: &[u8]) -> usize
-    ensures { IsLeftOf kept.now wire.now result }
+    ensures left { IsLeftOf kept.now wire.now result }
+    ensures most { (result ≡ length wire.now)
+        ⊎ TellsLength (kept.now ++ wire.now) (length kept.now + result) }
 {
     let length = length_of_front(kept, wire);
     if length <= kept.len() {
@@ -59,7 +61,10 @@ fn left_of(kept: &[u8], wire: &[u8]) -> usize
 /// How many of at most so many bytes of a wire may come to its reader, which keeps these: as many
 /// as there are, and none beyond the PDU at the front.
 pub fn movable(kept: &[u8], wire: &[u8], most: u64) -> usize
-    ensures { IsMovable kept.now wire.now most result }
+    ensures movable { IsMovable kept.now wire.now most result }
+    ensures most { (result ≡ most)
+        ⊎ ((result ≡ length wire.now)
+        ⊎ TellsLength (kept.now ++ wire.now) (length kept.now + result)) }
 {
     let there = left_of(kept, wire);
     if most < there as u64 {
