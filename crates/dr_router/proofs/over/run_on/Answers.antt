@@ -7,4 +7,4 @@ use Rattle.dr_router.proofs.over.run_on.Goals as goal
 pub run_over-requires-send-O-Ledger : goal.run_over-requires-send-O-Ledger
 run_over-requires-send-O-Ledger g c κs within =
     param_send 10 _ (arg_send _ yes _
-    (ledger_sends _ _ _ _ c.type_bounds.send-D-Store shelf_sends))
+    (ledger_sends _ _ _ _ _ _ c.type_bounds.send-D-Store shelf_sends past_sends))
