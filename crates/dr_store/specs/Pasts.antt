@@ -15,7 +15,7 @@ use Rattle.dr_store_past.specs.declared.fault.PastFault.TheVariants as past
 use Rattle.dr_store_past.specs.declared.fault.PastFileFault.TheVariants as file
 use Rattle.dr_store_past.specs.Lines.{past_in}
 use Rattle.dr_store_schema.specs.Books.{book_of}
-use Rattle.dr_store_calls.specs.Seals.{seal_in}
+use Rattle.dr_store_calls.specs.Owners.{seal_in}
 use Rattle.dr_store_views.specs.Spans.{numbered_of}
 
 -- the lines that have left these tables
