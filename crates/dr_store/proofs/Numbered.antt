@@ -53,7 +53,7 @@ skipped from last k (line ∷ past) lines low' =
 
 -- ---- the past's lines, and then the others
 
-no_more : (m : ℕ) → take m [] ≡ [] {A = Line}
+no_more : (m : ℕ) → ◌≡◌ {A = List Line} (take m []) []
 no_more m = take_all m [] (omega arith)
 
 -- the first of some lines, and then of what is behind those

@@ -284,13 +284,14 @@ impl<S: Alter, B: Shelf, P: LedgerPast> SqlLedger<S, B, P> {
         ensures wrote { B.Shelf.is_clean self.new.shelf × P.LedgerPast.is_clean self.new.past
             → Wrote result (state S.Store self.old.conn) (state S.Store self.new.conn)
             (λ base db. Arrives (site_routing self.old.site) caller.now (instance_of item)
-            (whole_book P.LedgerPast.all_lines base) result (whole_book P.LedgerPast.all_lines db)
+            (whole_book P.LedgerPast.all_lines base) result
+            (whole_book P.LedgerPast.all_lines db)
             × OnlyTakes item (bodies_with (B.Shelf.read_of self.old.shelf) base)
             (bodies_with (B.Shelf.read_of self.new.shelf) db)
             × LosesNoneOf (B.Shelf.read_of self.old.shelf) (B.Shelf.read_of self.new.shelf) base db)
             (MakesLedger P.LedgerPast.all_lines self.old.site
-            (λ base db. IsAccepted self.old.site caller.now (instance_of item) (whole_book P.LedgerPast.all_lines base)
-            (whole_book P.LedgerPast.all_lines db))) }
+            (λ base db. IsAccepted self.old.site caller.now (instance_of item)
+            (whole_book P.LedgerPast.all_lines base) (whole_book P.LedgerPast.all_lines db))) }
         ensures covered { B.Shelf.is_clean self.new.shelf × P.LedgerPast.is_clean self.new.past
             → HasCleanDisk (state S.Store self.new.conn)
             → IsSafe (state S.Store self.old.conn)
@@ -334,10 +335,14 @@ impl<S: Alter, B: Shelf, P: LedgerPast> SqlLedger<S, B, P> {
         requires { now ≤ 2 ^ 62 }
         ensures wrote { B.Shelf.is_clean self.new.shelf × P.LedgerPast.is_clean self.new.past
             → Wrote result (state S.Store self.old.conn) (state S.Store self.new.conn)
-            (λ base db. Settles uid.now dest.now outcome now (whole_book P.LedgerPast.all_lines base) result (whole_book P.LedgerPast.all_lines db)
+            (λ base db. Settles uid.now dest.now outcome now
+            (whole_book P.LedgerPast.all_lines base) result
+            (whole_book P.LedgerPast.all_lines db)
             × LetsGoOf (B.Shelf.read_of self.old.shelf) (B.Shelf.read_of self.new.shelf) base db)
             (MakesLedger P.LedgerPast.all_lines self.old.site
-            (λ base db. Settles uid.now dest.now outcome now (whole_book P.LedgerPast.all_lines base) (Ok tt) (whole_book P.LedgerPast.all_lines db))) }
+            (λ base db. Settles uid.now dest.now outcome now
+            (whole_book P.LedgerPast.all_lines base) (Ok tt)
+            (whole_book P.LedgerPast.all_lines db))) }
         ensures covered { B.Shelf.is_clean self.new.shelf × P.LedgerPast.is_clean self.new.past
             → HasCleanDisk (state S.Store self.new.conn)
             → IsSafe (state S.Store self.old.conn)
@@ -369,10 +374,14 @@ impl<S: Alter, B: Shelf, P: LedgerPast> SqlLedger<S, B, P> {
     fn requeue_in(&mut self, uid: &Text, dest: &Text) -> Result<(), LedgerFault>
         ensures wrote { B.Shelf.is_clean self.new.shelf × P.LedgerPast.is_clean self.new.past
             → Wrote result (state S.Store self.old.conn) (state S.Store self.new.conn)
-            (λ base db. Requeues uid.now dest.now (whole_book P.LedgerPast.all_lines base) result (whole_book P.LedgerPast.all_lines db)
+            (λ base db. Requeues uid.now dest.now
+            (whole_book P.LedgerPast.all_lines base) result
+            (whole_book P.LedgerPast.all_lines db)
             × LetsGoOf (B.Shelf.read_of self.old.shelf) (B.Shelf.read_of self.new.shelf) base db)
             (MakesLedger P.LedgerPast.all_lines self.old.site
-            (λ base db. Requeues uid.now dest.now (whole_book P.LedgerPast.all_lines base) (Ok tt) (whole_book P.LedgerPast.all_lines db))) }
+            (λ base db. Requeues uid.now dest.now
+            (whole_book P.LedgerPast.all_lines base) (Ok tt)
+            (whole_book P.LedgerPast.all_lines db))) }
         ensures covered { B.Shelf.is_clean self.new.shelf × P.LedgerPast.is_clean self.new.past
             → HasCleanDisk (state S.Store self.new.conn)
             → IsSafe (state S.Store self.old.conn)
@@ -398,10 +407,14 @@ impl<S: Alter, B: Shelf, P: LedgerPast> SqlLedger<S, B, P> {
         requires { now ≤ 2 ^ 62 }
         ensures wrote { B.Shelf.is_clean self.new.shelf × P.LedgerPast.is_clean self.new.past
             → Wrote result (state S.Store self.old.conn) (state S.Store self.new.conn)
-            (λ base db. Drops uid.now dest.now now (whole_book P.LedgerPast.all_lines base) result (whole_book P.LedgerPast.all_lines db)
+            (λ base db. Drops uid.now dest.now now
+            (whole_book P.LedgerPast.all_lines base) result
+            (whole_book P.LedgerPast.all_lines db)
             × LetsGoOf (B.Shelf.read_of self.old.shelf) (B.Shelf.read_of self.new.shelf) base db)
             (MakesLedger P.LedgerPast.all_lines self.old.site
-            (λ base db. Drops uid.now dest.now now (whole_book P.LedgerPast.all_lines base) (Ok tt) (whole_book P.LedgerPast.all_lines db))) }
+            (λ base db. Drops uid.now dest.now now
+            (whole_book P.LedgerPast.all_lines base) (Ok tt)
+            (whole_book P.LedgerPast.all_lines db))) }
         ensures covered { B.Shelf.is_clean self.new.shelf × P.LedgerPast.is_clean self.new.past
             → HasCleanDisk (state S.Store self.new.conn)
             → IsSafe (state S.Store self.old.conn)
@@ -433,10 +446,14 @@ impl<S: Alter, B: Shelf, P: LedgerPast> SqlLedger<S, B, P> {
     fn forget_in(&mut self, uid: &Text) -> Result<(), LedgerFault>
         ensures wrote { B.Shelf.is_clean self.new.shelf × P.LedgerPast.is_clean self.new.past
             → Wrote result (state S.Store self.old.conn) (state S.Store self.new.conn)
-            (λ base db. Forgets uid.now (whole_book P.LedgerPast.all_lines base) result (whole_book P.LedgerPast.all_lines db)
+            (λ base db. Forgets uid.now
+            (whole_book P.LedgerPast.all_lines base) result
+            (whole_book P.LedgerPast.all_lines db)
             × LetsGoOf (B.Shelf.read_of self.old.shelf) (B.Shelf.read_of self.new.shelf) base db)
             (MakesLedger P.LedgerPast.all_lines self.old.site
-            (λ base db. Forgets uid.now (whole_book P.LedgerPast.all_lines base) (Ok tt) (whole_book P.LedgerPast.all_lines db))) }
+            (λ base db. Forgets uid.now
+            (whole_book P.LedgerPast.all_lines base) (Ok tt)
+            (whole_book P.LedgerPast.all_lines db))) }
         ensures covered { B.Shelf.is_clean self.new.shelf × P.LedgerPast.is_clean self.new.past
             → HasCleanDisk (state S.Store self.new.conn)
             → IsSafe (state S.Store self.old.conn)
@@ -461,10 +478,12 @@ impl<S: Alter, B: Shelf, P: LedgerPast> SqlLedger<S, B, P> {
     fn adopt_in(&mut self, own: Site) -> Result<(), LedgerFault>
         ensures wrote { B.Shelf.is_clean self.new.shelf × P.LedgerPast.is_clean self.new.past
             → Wrote result (state S.Store self.old.conn) (state S.Store self.new.conn)
-            (λ base db. Adopting (whole_book P.LedgerPast.all_lines base) result (whole_book P.LedgerPast.all_lines db)
+            (λ base db. Adopting (whole_book P.LedgerPast.all_lines base) result
+            (whole_book P.LedgerPast.all_lines db)
             × LetsGoOf (B.Shelf.read_of self.old.shelf) (B.Shelf.read_of self.new.shelf) base db
             × TakesOver own result base db)
-            (MakesLedger P.LedgerPast.all_lines own (AdoptsWhole P.LedgerPast.all_lines own)) }
+            (MakesLedger P.LedgerPast.all_lines own
+            (AdoptsWhole P.LedgerPast.all_lines own)) }
         ensures covered { B.Shelf.is_clean self.new.shelf × P.LedgerPast.is_clean self.new.past
             → HasCleanDisk (state S.Store self.new.conn)
             → IsSafe (state S.Store self.old.conn)

@@ -99,11 +99,11 @@ pub fn tell_before<P: LedgerPast>(
     Ok(all)
 }
 
-/// Whether one list may have all lines of the past.
-fn is_listed<P: LedgerPast>(past: &P) -> bool
-    ensures { IsTrue result ↔ ((P.LedgerPast.reach past.now).count ≤ 4294967295) }
+/// Whether the past tells so many lines at once.
+fn is_listed(count: u64) -> bool
+    ensures { IsTrue result ↔ (count ≤ 4294967295) }
 {
-    past.seal().count <= u64::from(u32::MAX)
+    count <= u64::from(u32::MAX)
 }
 
 /// All lines of the past, and behind them these.
@@ -119,7 +119,7 @@ pub fn tell_all_before<P: LedgerPast>(
     ensures reach { P.LedgerPast.reach past.new ≡ P.LedgerPast.reach past.old }
     ensures clean { P.LedgerPast.is_clean past.new → P.LedgerPast.is_clean past.old }
 {
-    if !is_listed(past) {
+    if !is_listed(past.seal().count) {
         return Err(LedgerFault::Memory);
     }
     tell_before(past, 0, u32::MAX, more)

@@ -159,3 +159,6 @@ returns-clause-covered g c clean =
     (Survives Uses Stands Apart was_of read_of base)
     (λ k it own. survives was_of read_of base later (λ cell bytes used is. g.B.Shelf.held shelf cell bytes clean.0 used is) (arrived {Used = Used} {Stood = Stood} {Uses = Uses} {Stands = Stands} {Apart = Apart} {was_of = was_of} {read_of = read_of} keeps alike stood swaps Same part caller item base later r it own))
     (if_failed r (λ k own db may. survives was_of read_of base db (λ cell bytes used is. g.B.Shelf.held shelf cell bytes clean.0 used is) (left_by_arrival {Used = Used} {Stood = Stood} {Uses = Uses} {Stands = Stands} {Apart = Apart} {was_of = was_of} {read_of = read_of} keeps alike stood swaps Same part caller item base db may own))))
+
+pub returns-clause-clean : goal.returns-clause-clean
+returns-clause-clean g c clean = (c.arrive-answer.ensures.clean clean.0, clean.1)

@@ -145,3 +145,6 @@ returns-clause-covered g c clean =
     (λ (k : IsKept past n part old) (own : HaveOwn Used Apart base) db may.
     survives was_of was_of base db (λ cell bytes used is. g.B.Shelf.held was cell bytes (c.settle-answer.ensures.clean clean.0) used is)
     (left_of was_of base db Makes (λ made. (made.1, settled uid dest outcome now (Ok tt) base db made.0)) may own))))
+
+pub returns-clause-clean : goal.returns-clause-clean
+returns-clause-clean g c clean = (c.settle-answer.ensures.clean clean.0, clean.1)
