@@ -11,7 +11,7 @@ use Rattle.dr_store_schema.specs.Books.{book_of}
 use Rattle.dr_store_calls.specs.Calling.{IsLedgerOf}
 use Rattle.dr_store_calls.specs.Owners.{seal_in}
 use Rattle.dr_store_calls.proofs.Pasts.{numbers_count_all_lines}
-use Rattle.dr_store.specs.Pasts.{BooksAreWhole, NoneSealedIsNoPast, whole_book}
+use Rattle.dr_store.specs.Pasts.{BooksAreWhole, NoneSealedIsNoPast, past_of, whole_book}
 use Rattle.dr_store.specs.Standing.{is_journalled, past_kept}
 
 -- with each past that stands before both
@@ -39,10 +39,14 @@ module _ (all : List Line) (seal : Seal) (n m : ℕ) (part next : Part) (base db
 
 -- ---- laws
 
+-- where no line is ever sealed, no tables have a past
+pub no_past_of : (db : Trees) → past_of [] db ≡ []
+no_past_of db = take_all (seal_in db).count [] (omega arith)
+
 pub none_sealed : NoneSealedIsNoPast
 none_sealed = record {
   uncounted = λ all db is. ap (λ n. with_past (take n all) (book_of db)) is;
-  none = λ db. ap (λ past. with_past past (book_of db)) (take_all (seal_in db).count [] (omega arith));
+  none = λ db. ap (λ past. with_past past (book_of db)) (no_past_of db);
 }
 
 pub books_are_whole : BooksAreWhole
