@@ -1,5 +1,5 @@
--- A call that writes, by the tables before and after it, and what a crash leaves of it. `all` are all
--- lines that are ever sealed: they say the whole book of each content of the tables.
+-- A call that writes, by the tables before and after it, and what a crash leaves of it. `all` are
+-- all lines that are ever sealed: they say the whole book of each content of the tables.
 use Rattle.std.specs.Prelude.{◌≡◌, ◌⊎◌, ℕ, List, Result, Ok, Err, OnOk}
 use Rattle.sqlite.specs.State.{State, HasCleanDisk}
 use Rattle.sqlite.specs.Tree.{Trees}

@@ -50,8 +50,8 @@ pub fn tables_alone_have_the_whole_book()
     ensures { NoneSealedIsNoPast }
 {}
 
-/// A ledger's whole book has the lines of its past before those of its tables, and its journal makes
-/// it.
+/// A ledger's whole book has the lines of its past before those of its tables, and its journal
+/// makes it.
 pub fn books_have_their_past()
     ensures { BooksAreWhole }
 {}

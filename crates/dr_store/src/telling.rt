@@ -1,5 +1,5 @@
-//! The journal, each line with the instance that it is of, and as it is shown: the lines of the past,
-//! and then those of the tables.
+//! The journal, each line with the instance that it is of, and as it is shown: the lines of the
+//! past, and then those of the tables.
 ghost use Rattle.std.specs.Prelude.{◌≡◌, ◌++◌, ◌-◌, ◌<◌, ◌^◌, ℕ, false, min, IfOk};
 ghost use Rattle.std.specs.Prelude.{map as mapped};
 ghost use Rattle.sqlite.specs.Held.{state};
