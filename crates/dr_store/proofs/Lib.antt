@@ -6,6 +6,7 @@ pub mod Crashes
 pub mod Looks
 pub mod Nexts
 pub mod Numbered
+pub mod Numbers
 pub mod Owns
 pub mod Pasts
 pub mod Readable

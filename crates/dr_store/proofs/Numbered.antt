@@ -12,9 +12,9 @@ use Rattle.dr_ledger_views.proofs.Numbered.{before, page_is}
 use Rattle.dr_store_schema.specs.Books.{line_in, lines_of}
 use Rattle.dr_store_changes.specs.Writing.{CountTo}
 use Rattle.dr_store_calls.specs.Calling.{IsLedgerOf}
-use Rattle.dr_store_calls.proofs.Pasts.{numbers_alike}
 use Rattle.dr_store_views.specs.Spans.{numbered_of}
 use Rattle.dr_store.specs.Pasts.{AreBothWithin}
+use Rattle.dr_store.proofs.Numbers.{numbers_alike}
 
 -- ---- the tables' own numbers
 

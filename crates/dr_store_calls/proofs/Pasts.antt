@@ -54,7 +54,7 @@ module _ {V W : Type 0} where
       go head rest later Equal = λ i. head i ∷ rest i
       go head rest later Greater = λ i. head i ∷ later i
 
-  pub numbers_alike : (v : Row → V) (w : Row → W) (rows : List Row)
+  numbers_alike : (v : Row → V) (w : Row → W) (rows : List Row)
       → map.keys (map.from_entries {R = nat_cmp} (mapped (λ (r : Row). (number_in (rowid r), v r)) rows))
       ≡ map.keys (map.from_entries {R = nat_cmp} (mapped (λ (r : Row). (number_in (rowid r), w r)) rows))
   numbers_alike v w [] =
