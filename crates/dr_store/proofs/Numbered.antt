@@ -95,7 +95,10 @@ module _ (past lines : List Line) (after last : ℕ) where
   own_is : (own : List Line) → counted from own ≡ lines_within from last (counted (length past) lines) → own ≡ take (last - from) (drop from all)
   own_is own is =
       one_count from own (take (last - from) (drop from all))
-      (is ∙ sym (skipped from last 0 past lines (let low : 0 + length past ≤ from = omega arith in low)) ∙ sym (page_is from last all))
+      (is
+      ∙ ap (λ (k : ℕ). lines_within from last (counted k lines)) (let none : length past ≡ 0 + length past = omega arith in none)
+      ∙ sym (skipped from last 0 past lines (let low : 0 + length past ≤ from = omega arith in low))
+      ∙ sym (page_is from last all))
 
   both_are : take (last - after) (drop after past) ++ take (last - from) (drop from all) ≡ take (last - after) (drop after all)
   both_are =

@@ -12,10 +12,10 @@ use Rattle.dr_ledger_past.specs.Pasts.{with_past}
 use Rattle.dr_ledger_views.specs.Numbers.{counted, lines_within}
 use Rattle.dr_site.specs.Parts.{Part}
 use Rattle.dr_store_sealed.specs.declared.fault.SealFault.{SealFault}
-use Rattle.dr_store_sealed.specs.declared.fault.SealFault.TheVariants as seal
+use Rattle.dr_store_sealed.specs.declared.fault.SealFault.TheVariants as sealing
 use Rattle.dr_store_sealed.specs.declared.seal.Seal.{Seal}
 use Rattle.dr_store_past.specs.declared.fault.PastFault.{PastFault}
-use Rattle.dr_store_past.specs.declared.fault.PastFault.TheVariants as past
+use Rattle.dr_store_past.specs.declared.fault.PastFault.TheVariants as why
 use Rattle.dr_store_past.specs.declared.fault.PastFileFault.TheVariants as file
 use Rattle.dr_store_past.specs.Lines.{past_in}
 use Rattle.dr_store_schema.specs.Books.{book_of}
@@ -35,13 +35,13 @@ whole_book all db = with_past (past_of all db) (book_of db)
 
 -- what a ledger answers where lines of its past weren't read
 abbrev pub fault_of_seal : SealFault → LedgerFault
-fault_of_seal seal.Memory = fault.Memory
+fault_of_seal sealing.Memory = fault.Memory
 fault_of_seal other = fault.Store
 
 -- what it answers where its past didn't
 abbrev pub fault_of_past : PastFault → LedgerFault
-fault_of_past (past.Sealed why) = fault_of_seal why
-fault_of_past (past.File file.Memory) = fault.Memory
+fault_of_past (why.Sealed it) = fault_of_seal it
+fault_of_past (why.File file.Memory) = fault.Memory
 fault_of_past other = fault.Store
 
 -- The lines whose numbers lie behind the one and up to the other: those of the past, which has as

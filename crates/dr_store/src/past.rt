@@ -29,7 +29,9 @@ fn fault_of_file(fault: PastFileFault) -> LedgerFault
 {
     match fault {
         PastFileFault::Memory => LedgerFault::Memory,
-        _ => LedgerFault::Store,
+        PastFileFault::Missing => LedgerFault::Store,
+        PastFileFault::InUse => LedgerFault::Store,
+        PastFileFault::Store => LedgerFault::Store,
     }
 }
 
@@ -66,16 +68,27 @@ fn tell_past<P: LedgerPast>(
 }
 
 /// Some lines, and behind them the others.
+fn append(
+    first: Vec<JournalLine>,
+    more: Vec<JournalLine>,
+) -> Result<Seq<JournalLine>, AllocError>
+    ensures { IfOk result (λ all. all ≡ first.items ++ more.items) }
+{
+    let mut all = first;
+    let mut more = more;
+    all.append(&mut more)?;
+    Ok(Seq::from_vec(all))
+}
+
+/// The same of lists.
 fn join(
     first: Seq<JournalLine>,
     more: Seq<JournalLine>,
-) -> Result<Seq<JournalLine>, AllocError>
-    ensures { IfOk result (λ all. all ≡ first ++ more) }
+) -> Result<Seq<JournalLine>, LedgerFault>
+    ensures all { Reads result (λ all. all ≡ first ++ more) }
 {
-    let mut all = first.into_vec();
-    let mut more = more.into_vec();
-    all.append(&mut more)?;
-    Ok(Seq::from_vec(all))
+    let all = append(first.into_vec(), more.into_vec())?;
+    Ok(all)
 }
 
 /// The lines of the past whose numbers lie behind that one, so many at most, and behind them these.
@@ -94,9 +107,10 @@ pub fn tell_before<P: LedgerPast>(
     ensures reach { P.LedgerPast.reach past.new ≡ P.LedgerPast.reach past.old }
     ensures clean { P.LedgerPast.is_clean past.new → P.LedgerPast.is_clean past.old }
 {
-    let first = tell_past(past, after, limit)?;
-    let all = join(first, more)?;
-    Ok(all)
+    match tell_past(past, after, limit) {
+        Ok(first) => join(first, more),
+        Err(fault) => Err(fault),
+    }
 }
 
 /// Whether the past tells so many lines at once.

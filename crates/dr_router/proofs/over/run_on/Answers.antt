@@ -1,5 +1,6 @@
 use denote.Exit.{yes}
 use denote.Param.Send.{param_send, arg_send}
+use Rattle.dr_store_past.proofs.none.NoPast.TheSendSync.{the_send as past_sends}
 use Rattle.dr_store.proofs.ledger.SqlLedger.TheSendSync.{the_send as ledger_sends}
 use Rattle.dr_router.proofs.Sends.{shelf_sends}
 use Rattle.dr_router.proofs.over.run_on.Goals as goal
