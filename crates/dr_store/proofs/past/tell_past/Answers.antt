@@ -1,4 +1,3 @@
-use Rattle.dr_store_past.specs.declared.fault.PastFault.{PastFault}
 use Rattle.dr_store.proofs.Pasts.{past_failed}
 use Rattle.dr_store.proofs.past.tell_past.Goals as goal
 

@@ -8,7 +8,6 @@ use Rattle.dr_ledger.specs.Replies.{Arrives}
 use Rattle.dr_ledger.specs.SiteRoutes.{site_routing}
 use Rattle.dr_ledger_past.proofs.Alike.{arrives_alike}
 use Rattle.dr_store_past.specs.Lines.{past_in}
-use Rattle.dr_store_schema.specs.Books.{book_of}
 use Rattle.dr_store_calls.specs.Calling.{IsSafe, advanced}
 use Rattle.dr_store_calls.specs.Knowing.{IsAccepted}
 use Rattle.dr_store_calls.specs.Shelving.{AcceptsItem, AnswersTo, IsPut}
