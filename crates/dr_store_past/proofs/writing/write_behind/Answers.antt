@@ -1,32 +1,21 @@
-use Rattle.std.proofs.Common.{rules, ◌∙◌, ap, take, sym}
-use Rattle.dr_store_sealed.proofs.FileLemmas.{endures_fewer}
-use Rattle.dr_store_past.proofs.Written.{add_refused, counts_all, err_told, texts_refused}
+use Rattle.std.proofs.Common.{rules, refl, sym, ◌∙◌, ap, arith, length, take}
+use Rattle.std.proofs.lemmas.List.{take_rest}
+use Rattle.dr_store_past.proofs.Growing.{all_in, keeps_more, page_more, page_refused, same_more}
+use Rattle.dr_store_past.proofs.Written.{err_told}
 use Rattle.dr_store_past.proofs.writing.write_behind.Goals as goal
 
-pub returns-in_err-texts-clause-why : goal.returns-in_err-texts-clause-why
-returns-in_err-texts-clause-why g c =
-    err_told _ _ _ c.from_residual.ensures
-    (texts_refused _ _ _ _ c.args.from.now c.args.lines.now _ c.in_err-texts.ensures.why)
+pub returns-clause-written : goal.returns-clause-written
+returns-clause-written g c =
+    (all_in g.D.Disk c.args.from.now c.args.lines.now c.loop-done.done _ c.loop-done.file c.loop-done.last c.loop-done-test.false c.loop-done.invariant).0
 
-pub returns-in_err-last-clause-keeps : goal.returns-in_err-last-clause-keeps
-returns-in_err-last-clause-keeps g c at kept low was =
-    c.append_to.ensures.keeps at kept low (endures_fewer at _ _ kept _ _ c.len.ensures.seen c.len.ensures.crash was)
+pub returns-clause-one : goal.returns-clause-one
+returns-clause-one g c =
+    (all_in g.D.Disk c.args.from.now c.args.lines.now c.loop-done.done _ c.loop-done.file c.loop-done.last c.loop-done-test.false c.loop-done.invariant).1
 
-pub returns-then-last-from-clause-keeps : goal.returns-then-last-from-clause-keeps
-returns-then-last-from-clause-keeps g c at kept low was =
-    c.append_to.ensures.keeps at kept low (endures_fewer at _ _ kept _ _ c.len.ensures.seen c.len.ensures.crash was)
-
-pub returns-clause-keeps : goal.returns-clause-keeps
-returns-clause-keeps g c at kept low was =
-    c.append_to.ensures.keeps at kept low (endures_fewer at _ _ kept _ _ c.len.ensures.seen c.len.ensures.crash was)
+pub returns-clause-fit : goal.returns-clause-fit
+returns-clause-fit g c =
+    (all_in g.D.Disk c.args.from.now c.args.lines.now c.loop-done.done _ c.loop-done.file c.loop-done.last c.loop-done-test.false c.loop-done.invariant).2
 
 pub returns-clause-counts : goal.returns-clause-counts
 returns-clause-counts g c =
-    counts_all c.args.from.now c.in_ok-last.last c.args.lines.now c.in_ok-texts.texts.items c.in_ok-texts.ensures.texts
-    (rw c.deref.ensures.value at c.in_ok-last.ensures.takes) (search rules)
-
-pub returns-in_err-last-clause-why : goal.returns-in_err-last-clause-why
-returns-in_err-last-clause-why g c =
-    err_told _ _ _ c.from_residual-in_err-last.ensures
-    (add_refused g.D.Disk _ _ c.args.from.now c.args.lines.now c.in_ok-texts.texts.items c.len.new.self c.append_to.new.file c.in_ok-texts.ensures.texts
-    (search rules) (search rules) _ _ (rw c.deref.ensures.value at c.in_err-last.ensures.why))
+    (all_in g.D.Disk c.args.from.now c.args.lines.now c.loop-done.done _ c.loop-done.file c.loop-done.last c.loop-done-test.false c.loop-done.invariant).3
