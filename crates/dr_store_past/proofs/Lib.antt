@@ -1,7 +1,9 @@
 pub mod Growing
-pub mod Pages
 pub mod Noting
 pub mod Onward
+pub mod Pages
+pub mod Putting
 pub mod Shows
+pub mod Steps
 pub mod Told
 pub mod Written

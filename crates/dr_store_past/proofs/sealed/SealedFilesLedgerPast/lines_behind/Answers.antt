@@ -1,6 +1,23 @@
+use Rattle.dr_store_files.specs.Filed.{InDisks, KeepLines}
+use Rattle.dr_store_files.proofs.Filing.{filed_map}
 use Rattle.dr_store_past.proofs.Noting.{clean_read, clean_unread, noted_known}
+use Rattle.dr_store_past.proofs.Onward.{kept_read}
 use Rattle.dr_store_past.proofs.Written.{err_map, told_under}
 use Rattle.dr_store_past.proofs.sealed.SealedFilesLedgerPast.lines_behind.Goals as goal
+
+pub returns-clause-holds : goal.returns-clause-holds
+returns-clause-holds g c before held = kept_read g.F.Disk.Disk _ _ c.read_behind.ensures.keeps _ _ _ held
+
+pub returns-clause-written : goal.returns-clause-written
+returns-clause-written g c lines last was =
+    record {
+      written = kept_read g.F.Disk.Disk _ _ c.read_behind.ensures.keeps _ _ _ was.written;
+      one = was.one;
+      fit = was.fit;
+      counted = was.counted;
+      there = rw c.read_behind.ensures.size was.there;
+      known = noted_known _ _ c.args.self.now.seal _ _ c.args.self.now.seal c.read_behind.ensures.notes was.known;
+    }
 
 pub returns-clause-clean : goal.returns-clause-clean
 returns-clause-clean g c clean =
