@@ -22,7 +22,7 @@ use Rattle.dr_ledger.proofs.Overs.{forgettings_take_their_uid}
 -- ---- refusals
 
 -- a store that is the fault has counted one failure more, where there was room for it
-uncounted : {A : Type 0} (before now : ℕ) → Counts {A = A} (Err fault.Store) before now → now ≡ before → before < 2 ^ 64 - 1 → ⊥
+pub uncounted : {A : Type 0} (before now : ℕ) → Counts {A = A} (Err fault.Store) before now → now ≡ before → before < 2 ^ 64 - 1 → ⊥
 uncounted before now c same early = of (c.has_cause refl)
   where
     of : (before < now) ⊎ (now ≡ 2 ^ 64 - 1) → ⊥
@@ -104,7 +104,7 @@ pub awaited_is_not_over : AwaitedIsNotOver
 awaited_is_not_over b uid dest tries due item a over = no_way (is_queued (Waiting tries due)) refl (over.unqueued dest (Waiting tries due) a.0)
 
 -- one line leaves it, if it isn't that of its settling
-one_line : (routing : Routing) (line : Line) (b : Book) (uid dest : Text) (tries due : ℕ) (item : Instance)
+pub one_line : (routing : Routing) (line : Line) (b : Book) (uid dest : Text) (tries due : ℕ) (item : Instance)
     → IsCall routing line b
     → ((outcome : Outcome) (now : ℕ) → line ≡ Settling uid dest outcome now → ⊥)
     → IsAwaited b uid dest tries due item

@@ -29,7 +29,7 @@ use Rattle.dr_world_model.specs.Among.{Ours, ArrivesAtOurs, Doing, Calls, Takes,
 use Rattle.dr_world_model.specs.Worlds.{World, Link, Contexts, Stage, Asking, Answering, Rejecting, Open, Storing, Replying, Gone, start, with_link, with_links, without_caller, at_stage}
 use Rattle.dr_world_model.specs.Calls.{Answer, Settlement}
 use Rattle.dr_ledger.specs.Replies.{store_status, Reply}
-use Rattle.dr_world_model.specs.Steps.{IsLink, SettlesFirst, OpensLink, pending, SettlesPending, Leaves, LeavesIfOn, LeaveAll, callers_of, links_without, ReadsAnswer, Gives, Receives, ReadsReply, PassesOver}
+use Rattle.dr_world_model.specs.Steps.{IsLink, SettlesFirst, OpensLink, handed_out, line_count, pending, SettlesPending, Leaves, LeavesIfOn, LeaveAll, callers_of, links_without, ReadsAnswer, Gives, Receives, ReadsReply, PassesOver}
 use Rattle.dr_world_model.specs.Events.{Event, Take, Ask, AgreeReceiver, AgreeCaller, Give, PassOver, Receive, Answered, BreakCaller, BreakReceiver, Close, Restart, Requeue, Drop, Forget, Refuse, StayAway, Tick, HasNode, Step}
 use Rattle.dr_world_model.specs.Claims.{CoversHop, HadArrival, IsKeptAt, IsOpen, IsToGo, IsToSend, NobodyDropped, WasGivenUp}
 use Rattle.dr_world_model.proofs.AdoptionsKept.{adopted_right, empty_right, no_row, node_or_not, queued_not_done, was_queued}
@@ -38,7 +38,7 @@ use Rattle.dr_world_model.proofs.EventsKept.{covers_of, fair_status_of, not_refu
 use Rattle.dr_world_model.proofs.FromSafety.{given_before, none_given, none_given_here, reaches_keeper}
 use Rattle.dr_world_model.proofs.Keeping.{IsRight, Noted, Took}
 use Rattle.dr_world_model.proofs.Lookups.{numbers}
-use Rattle.dr_world_model.proofs.Safety.{WorldGrows, world_same, world_on, same_grows}
+use Rattle.dr_world_model.proofs.Safety.{WorldGrows, world_same, world_on, same_grows, had_now, has_since}
 use Rattle.dr_world_model.proofs.Walking.{goes_reached}
 use Rattle.dr_world_model.proofs.AmongSafe.{IsSafeAmong, IsFairFor, IsFairLinkAmong, IsFairAmong, PassedBy, among_still, entry_still, fair_among, put_link_among, same_among}
 use Rattle.dr_world_model.proofs.AmongCalls.{KeptAmong, arriving_among, forgetting_among, giving_up_among, not_both, requeue_among, sent_among, settlement_among, unchanged_among}
@@ -55,18 +55,8 @@ none_own ours plan caller receiver accepted (inr other) c r = absurd (not_both (
 
 module _ (ours : Ours) (plan : Network) where
   -- ---- links
-  fair_at : (w : World) (link : Link) (stage : Stage) → IsFairLinkAmong ours plan w link → link.stage ≡ stage → IsFairFor ours plan w link.caller link.receiver link.caller_connected stage
-  fair_at w link stage fair is = subst (IsFairFor ours plan w link.caller link.receiver link.caller_connected) is fair
-
-  -- a stage that is fair is so for a caller that has left
-  off_fair : (w : World) (caller receiver : Text) (connected : Bool) (stage : Stage) → IsFairFor ours plan w caller receiver connected stage → IsFairFor ours plan w caller receiver false stage
-  off_fair w caller receiver connected Asking h = tt
-  off_fair w caller receiver connected Rejecting h = tt
-  off_fair w caller receiver connected Gone h = tt
-  off_fair w caller receiver connected (Answering accepted) h = h
-  off_fair w caller receiver connected (Open accepted) h = h
-  off_fair w caller receiver connected (Storing accepted item) h = (h.0, λ own. ((h.1 own).0, λ on. absurd (let e : ⊥ = cc in e)))
-  off_fair w caller receiver connected (Replying accepted item status) h = (h.0, (λ own. ((h.1 own).0, λ on. absurd (let e : ⊥ = cc in e))), h.2)
+  fair_at : (w : World) (link : Link) (stage : Stage) → IsFairLinkAmong ours plan w link → link.stage ≡ stage → IsFairFor ours plan w link.caller link.receiver stage
+  fair_at w link stage fair is = subst (IsFairFor ours plan w link.caller link.receiver) is fair
 
   then_link : (old mid : World) (number : ℕ) (link : Link) → LivesAmong ours plan old mid → IsFairLinkAmong ours plan mid link → LivesAmong ours plan old (with_link mid number link)
   then_link old mid number link kept fair = record {
@@ -78,13 +68,12 @@ module _ (ours : Ours) (plan : Network) where
   lives old new k = record { safe = k.safe; grows = k.grows }
 
   still_fair : (old mid : World) (number : ℕ) (link : Link) → IsLink old number link → KeptAmong ours plan old mid → IsFairLinkAmong ours plan old link → IsFairLinkAmong ours plan mid link
-  still_fair old mid number link at kept fair =
-      among_still ours plan old mid kept.grows link.caller link.receiver link.caller_connected link.stage (λ item c p had. kept.pends number link item at c p had) fair
+  still_fair old mid number link at kept fair = among_still ours plan old mid kept.grows link.caller link.receiver link.stage fair
 
   stage_after : (old mid : World) (number : ℕ) (link : Link) (stage : Stage) → IsLink old number link → link.stage ≡ stage → KeptAmong ours plan old mid →
-      IsFairFor ours plan old link.caller link.receiver link.caller_connected stage → IsFairFor ours plan mid link.caller link.receiver link.caller_connected stage
+      IsFairFor ours plan old link.caller link.receiver stage → IsFairFor ours plan mid link.caller link.receiver stage
   stage_after old mid number link stage at is kept fair =
-      fair_at mid link stage (still_fair old mid number link at kept (subst (IsFairFor ours plan old link.caller link.receiver link.caller_connected) (sym is) fair)) is
+      fair_at mid link stage (still_fair old mid number link at kept (subst (IsFairFor ours plan old link.caller link.receiver) (sym is) fair)) is
 
   lives_on : (a b c : World) → LivesAmong ours plan a b → LivesAmong ours plan b c → LivesAmong ours plan a c
   lives_on a b c f g = record { safe = g.safe; grows = world_on a b c f.grows g.grows }
@@ -93,12 +82,12 @@ module _ (ours : Ours) (plan : Network) where
   only_link w number link safe fair = then_link w w number link (record { safe = safe; grows = world_same w }) fair
 
   -- ---- events
-  broken_among : (w new : World) (name uid dest : Text) (answer : Answer) → IsSafeAmong ours plan w → Settlement w name uid dest Broken answer new → KeptAmong ours plan w new
-  broken_among w new name uid dest answer safe s = settlement_among ours plan w safe name uid dest Broken answer new (λ own near. tt) (λ own near e. absurd (broken_not_done e)) s
+  broken_among : (w new : World) (name uid : Text) (since : ℕ) (dest : Text) (answer : Answer) → IsSafeAmong ours plan w → Settlement w name uid since dest Broken answer new → KeptAmong ours plan w new
+  broken_among w new name uid since dest answer safe s = settlement_among ours plan w safe name uid since dest Broken answer new (λ own near. tt) (λ own near e. absurd (broken_not_done e)) s
 
   first_among : (w new : World) (link : Link) (answer : Option Answer) → IsSafeAmong ours plan w → SettlesFirst w link answer new → KeptAmong ours plan w new
   first_among w new link None safe s = unchanged_among ours plan w safe new s.1
-  first_among w new link (Some answer) safe s = broken_among w new link.caller s.0.uid link.receiver answer safe s.2
+  first_among w new link (Some answer) safe s = broken_among w new link.caller s.0.uid (line_count w link.caller) link.receiver answer safe s.2
 
   opens_among : (w new : World) (number : ℕ) (link : Link) (answer : Option Answer) → IsSafeAmong ours plan w → IsFairLinkAmong ours plan w link → OpensLink w number link answer new → LivesAmong ours plan w new
   opens_among w new number link None safe fair o =
@@ -113,7 +102,7 @@ module _ (ours : Ours) (plan : Network) where
         | inr n ↦
             (let kept = first_among w n.1.0 s.link answer safe n.1.1 in
             subst (LivesAmong ours plan w) (sym n.1.2) (then_link w n.1.0 number (without_caller s.link) (lives w n.1.0 kept)
-            (off_fair n.1.0 s.link.caller s.link.receiver s.link.caller_connected s.link.stage (still_fair w n.1.0 number s.link s.at kept fair))))
+            (still_fair w n.1.0 number s.link s.at kept fair)))
       ]
 
   gives_among : (w new : World) (number : ℕ) (answer : Option Answer) → IsSafeAmong ours plan w → Gives w number answer new → LivesAmong ours plan w new
@@ -121,13 +110,14 @@ module _ (ours : Ours) (plan : Network) where
       let covers = fair_at w s.link (Open s.accepted) (safe.links number s.link s.at) s.stage in
       let n = s.first in
       let sent = sent_among ours plan w safe s.link.caller s.link.receiver s.item (Waiting n.row.0.0 n.due) n.row.0.1 n.has in
-      subst (LivesAmong ours plan w) (sym s.then.1) (only_link w number (at_stage s.link (Storing s.accepted s.item)) safe (covers, λ own. (sent, λ on. n.has)))
+      subst (LivesAmong ours plan w) (sym s.then.1) (only_link w number (at_stage s.link (Storing s.accepted s.item (line_count w s.link.caller))) safe
+      (covers, λ own. (sent, had_now (w.books s.link.caller) s.item (safe.folds s.link.caller) n.has)))
   gives_among w new number (Some answer) safe s =
       let covers = fair_at w s.link (Open s.accepted) (safe.links number s.link s.at) s.stage in
       let n = s.first in
       let sent = sent_among ours plan w safe s.link.caller s.link.receiver s.item (Waiting n.row.0.0 n.due) n.row.0.1 n.has in
       let no_context : NoContext ≢ Status 0 = λ e. cc in
-      let kept = settlement_among ours plan w safe s.link.caller s.item.uid s.link.receiver NoContext answer s.then.1.0
+      let kept = settlement_among ours plan w safe s.link.caller s.item.uid (line_count w s.link.caller) s.link.receiver NoContext answer s.then.1.0
       (λ own near. not_both _ (covers own near (s.item.key.class, s.item.key.syntax) (s.item.key, refl, sent.goes)) s.then.0)
       (λ own near e. absurd (no_context e)) s.then.1.1 in
       subst (LivesAmong ours plan w) (sym s.then.1.2) (then_link w s.then.1.0 number _ (lives w s.then.1.0 kept) covers)
@@ -136,15 +126,15 @@ module _ (ours : Ours) (plan : Network) where
   receives_among w new number reply safe at_ours s =
       let link = s.link in
       let near = at_ours link s.at in
-      let fair = fair_at w link (Storing s.accepted s.item) (safe.links number link s.at) s.stage in
+      let fair = fair_at w link (Storing s.accepted s.item s.since) (safe.links number link s.at) s.stage in
       let sourced : (v : World) → WorldGrows w v → HadArrival v link.receiver link.caller s.item → HasEntry ours plan v link.caller link.receiver s.item = λ v g there.
       elim (cases_of (ours link.caller)) [
         | inl own ↦ entry_still ours plan w v g link.caller link.receiver s.item ((fair.1 own).0.entry near)
         | inr other ↦ record { first = link.caller; site = link.receiver; origin = inr (inl (other, there)); over = []; walk = tt; last_is = refl; own = tt }
       ] in
       let k = arriving_among ours plan w safe link.receiver link.caller s.item reply s.mid near sourced s.call in
-      let later = stage_after w s.mid number link (Storing s.accepted s.item) s.at s.stage k.0 fair in
-      subst (LivesAmong ours plan w) (sym s.is) (then_link w s.mid number (at_stage link (Replying s.accepted s.item (store_status reply))) (lives w s.mid k.0) (
+      let later = stage_after w s.mid number link (Storing s.accepted s.item s.since) s.at s.stage k.0 fair in
+      subst (LivesAmong ours plan w) (sym s.is) (then_link w s.mid number (at_stage link (Replying s.accepted s.item s.since (store_status reply))) (lives w s.mid k.0) (
         later.0,
         later.1,
         λ here. (
@@ -156,19 +146,20 @@ module _ (ours : Ours) (plan : Network) where
   replied_among : (w new : World) (number : ℕ) (answer : Answer) → IsSafeAmong ours plan w → ReadsReply w number answer new → LivesAmong ours plan w new
   replied_among w new number answer safe s =
       let link = s.link in
-      let fair = fair_at w link (Replying s.accepted s.item s.status) (safe.links number link s.at) s.stage in
-      let kept = settlement_among ours plan w safe link.caller s.item.uid link.receiver (Status s.status) answer s.mid (λ own near. (fair.2 near).0 own)
-      (λ own near e i u has. subst (HadArrival w link.receiver link.caller) (one_item w link.caller s.item i (sym u) ((fair.1 own).1 s.on) has) ((fair.2 near).1 (status_inside s.status 0 e))) s.call in
+      let fair = fair_at w link (Replying s.accepted s.item s.since s.status) (safe.links number link s.at) s.stage in
+      let kept = settlement_among ours plan w safe link.caller s.item.uid s.since link.receiver (Status s.status) answer s.mid (λ own near. (fair.2 near).0 own)
+      (λ own near e there i u has. subst (HadArrival w link.receiver link.caller)
+      (one_item w link.caller s.item i (sym u) (has_since (w.books link.caller) s.since s.item (safe.folds link.caller) (fair.1 own).1 there) has) ((fair.2 near).1 (status_inside s.status 0 e))) s.call in
       subst (LivesAmong ours plan w) (sym s.is) (then_link w s.mid number _ (lives w s.mid kept) fair.0)
 
   passes_among : (w new : World) (number : ℕ) (answer : Answer) → IsSafeAmong ours plan w → PassesOver w number answer new → LivesAmong ours plan w new
   passes_among w new number answer safe s =
-      let kept = settlement_among ours plan w safe s.link.caller s.item.uid s.link.receiver Unreadable answer s.mid (λ own near. tt) (λ own near e. absurd (unreadable_not_done e)) s.call in
+      let kept = settlement_among ours plan w safe s.link.caller s.item.uid (line_count w s.link.caller) s.link.receiver Unreadable answer s.mid (λ own near. tt) (λ own near e. absurd (unreadable_not_done e)) s.call in
       subst (LivesAmong ours plan w) (sym s.is) (then_link w s.mid number (without_caller s.link) (lives w s.mid kept)
-      (off_fair s.mid s.link.caller s.link.receiver s.link.caller_connected s.link.stage (still_fair w s.mid number s.link s.at kept (safe.links number s.link s.at))))
+      (still_fair w s.mid number s.link s.at kept (safe.links number s.link s.at)))
 
   pending_among : (w new : World) (link : Link) (item : Option Instance) (answer : Option Answer) → IsSafeAmong ours plan w → SettlesPending w link item answer new → KeptAmong ours plan w new
-  pending_among w new link (Some item) (Some answer) safe s = broken_among w new link.caller item.uid link.receiver answer safe s
+  pending_among w new link (Some item) (Some answer) safe s = broken_among w new link.caller item.uid (handed_out link.stage) link.receiver answer safe s
   pending_among w new link None None safe s = unchanged_among ours plan w safe new s
   pending_among w new link (Some item) None safe s = absurd s
   pending_among w new link None (Some answer) safe s = absurd s
@@ -177,7 +168,7 @@ module _ (ours : Ours) (plan : Network) where
   leaves_among w new number answer safe s =
       let kept = pending_among w s.mid s.link (pending s.link.stage) answer safe s.broken in
       subst (LivesAmong ours plan w) (sym s.is) (then_link w s.mid number (without_caller s.link) (lives w s.mid kept)
-      (off_fair s.mid s.link.caller s.link.receiver s.link.caller_connected s.link.stage (still_fair w s.mid number s.link s.at kept (safe.links number s.link s.at))))
+      (still_fair w s.mid number s.link s.at kept (safe.links number s.link s.at)))
 
   leaves_if_on_among : (w new : World) (number : ℕ) (link : Link) (answer : Option Answer) → IsSafeAmong ours plan w → LeavesIfOn w number link answer new → LivesAmong ours plan w new
   leaves_if_on_among w new number link answer safe (inl left) = leaves_among w new number answer safe left
@@ -220,8 +211,8 @@ module _ (ours : Ours) (plan : Network) where
       subst (LivesAmong ours plan w) (sym s.2) (lives_on w s.0 (with_links s.0 (links_without s.0.links node)) kept last)
   step_among sound (Requeue node uid dest answer) w new safe own s = lives w new (requeue_among ours plan w safe node uid dest answer new s.1)
   step_among sound (Drop node uid dest answer) w new safe own s = lives w new (giving_up_among ours plan w safe node uid dest answer new s.1)
-  step_among sound (StayAway node uid dest answer) w new safe own s = lives w new (broken_among w new node uid dest answer safe s.1)
-  step_among sound (Forget node uid answer) w new safe own s = lives w new (forgetting_among ours plan w safe node uid answer new s.1 s.2)
+  step_among sound (StayAway node uid dest answer) w new safe own s = lives w new (broken_among w new node uid s.1.0 dest answer safe s.1.1)
+  step_among sound (Forget node uid answer) w new safe own s = lives w new (forgetting_among ours plan w safe node uid answer new s.1)
   step_among sound (Refuse node) w new safe own s =
       same_lives w new safe (ap (λ v. v.books) s.1) (ap (λ v. v.stood) s.1) (λ number link h. safe.links number link (ap (λ (v : World). map.get v.links number) (sym s.1) ∙ h))
   step_among sound (Tick ms) w new safe own s =
@@ -242,10 +233,10 @@ module _ (ours : Ours) (plan : Network) where
   doing_among (Agrees number answer) w new safe s = subst (LivesAmong ours plan w) (sym s.is) (only_link w number (answered_link s.link answer) safe (answered_fair w s.link answer (inr s.other)))
   doing_among (Stores number item) w new safe s =
       let covers = fair_at w s.link (Open s.accepted) (safe.links number s.link s.at) s.stage in
-      subst (LivesAmong ours plan w) (sym s.is) (only_link w number (at_stage s.link (Storing s.accepted item)) safe (covers, λ own. absurd (not_both (ours s.link.caller) own s.other)))
+      subst (LivesAmong ours plan w) (sym s.is) (only_link w number (at_stage s.link (Storing s.accepted item 0)) safe (covers, λ own. absurd (not_both (ours s.link.caller) own s.other)))
   doing_among (Replies number status) w new safe s =
-      let fair = fair_at w s.link (Storing s.accepted s.item) (safe.links number s.link s.at) s.stage in
-      subst (LivesAmong ours plan w) (sym s.is) (only_link w number (at_stage s.link (Replying s.accepted s.item status)) safe (fair.0, fair.1, λ near. absurd (not_both (ours s.link.receiver) near s.other)))
+      let fair = fair_at w s.link (Storing s.accepted s.item s.since) (safe.links number s.link s.at) s.stage in
+      subst (LivesAmong ours plan w) (sym s.is) (only_link w number (at_stage s.link (Replying s.accepted s.item s.since status)) safe (fair.0, fair.1, λ near. absurd (not_both (ours s.link.receiver) near s.other)))
 
   -- ---- what follows
   among_before : (w : World) (caller name to : Text) (item : Instance) (dest : Text) → Sends plan name caller item.key to → IsCoveredAmong ours plan w name to item dest → IsCoveredAmong ours plan w caller name item dest
@@ -284,14 +275,14 @@ module _ (ours : Ours) (plan : Network) where
   stood_among w safe name to item dest d (inr (inr (inl own))) = inr (inr (inl (own.0, own.1, covered_among d.0 w safe name to item dest own.1 d.1 d.2 d.3)))
   stood_among w safe name to item dest d (inr (inr (inr away))) = inr (inr (inr away))
 
-  agreed_open : (w : World) (caller receiver : Text) (connected : Bool) (stage : Stage) (accepted : Contexts) → IsFairFor ours plan w caller receiver connected stage → ours caller ≡ true → ours receiver ≡ true → IsOpen stage accepted → CoversHop plan caller receiver accepted
-  agreed_open w caller receiver connected Asking accepted fair c r opened = absurd opened
-  agreed_open w caller receiver connected (Answering pairs) accepted fair c r opened = absurd opened
-  agreed_open w caller receiver connected Rejecting accepted fair c r opened = absurd opened
-  agreed_open w caller receiver connected Gone accepted fair c r opened = absurd opened
-  agreed_open w caller receiver connected (Open pairs) accepted fair c r opened = subst (CoversHop plan caller receiver) opened (fair c r)
-  agreed_open w caller receiver connected (Storing pairs item) accepted fair c r opened = subst (CoversHop plan caller receiver) opened (fair.0 c r)
-  agreed_open w caller receiver connected (Replying pairs item status) accepted fair c r opened = subst (CoversHop plan caller receiver) opened (fair.0 c r)
+  agreed_open : (w : World) (caller receiver : Text) (stage : Stage) (accepted : Contexts) → IsFairFor ours plan w caller receiver stage → ours caller ≡ true → ours receiver ≡ true → IsOpen stage accepted → CoversHop plan caller receiver accepted
+  agreed_open w caller receiver Asking accepted fair c r opened = absurd opened
+  agreed_open w caller receiver (Answering pairs) accepted fair c r opened = absurd opened
+  agreed_open w caller receiver Rejecting accepted fair c r opened = absurd opened
+  agreed_open w caller receiver Gone accepted fair c r opened = absurd opened
+  agreed_open w caller receiver (Open pairs) accepted fair c r opened = subst (CoversHop plan caller receiver) opened (fair c r)
+  agreed_open w caller receiver (Storing pairs item since) accepted fair c r opened = subst (CoversHop plan caller receiver) opened (fair.0 c r)
+  agreed_open w caller receiver (Replying pairs item since status) accepted fair c r opened = subst (CoversHop plan caller receiver) opened (fair.0 c r)
 
   reached_own : {P Q : Type 0} (to : Text) → ours to ≡ true → ((ours to ≡ true) × P) ⊎ ((ours to ≡ false) × Q) → P
   reached_own to own (inl h) = h.1
@@ -313,14 +304,14 @@ module _ (ours : Ours) (plan : Network) where
     };
     none_refused = record {
       lines = λ name uid dest outcome now own near h. safe.lines name (Settling uid dest outcome now) h uid dest outcome now near refl;
-      agreed = λ number link accepted h c r opened. agreed_open w link.caller link.receiver link.caller_connected link.stage accepted (safe.links number link h) c r opened;
+      agreed = λ number link accepted h c r opened. agreed_open w link.caller link.receiver link.stage accepted (safe.links number link h) c r opened;
     };
     within_rank = λ caller name item a.
         let entry = safe.sources name caller item a in
         let ranked = sound_has_rank plan sound item.key entry.first entry.site (entry_reached w safe entry.first entry.site item entry.origin) in
         (entry, (ranked.0, ranked.1, ranked.1.greatest entry.over entry.walk));
     honest = record {
-      replies = λ number link accepted item h near stage. ((fair_at w link (Replying accepted item 0) (safe.links number link h) stage).2 near).1 refl;
+      replies = λ number link accepted item since h near stage. ((fair_at w link (Replying accepted item since 0) (safe.links number link h) stage).2 near).1 refl;
       done = λ name to item near row has. reached_own to near (safe.done name to item row has);
       answered = safe.answered;
       taken = λ name to item far row has. reached_other to far (safe.done name to item row has);

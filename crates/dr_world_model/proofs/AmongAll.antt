@@ -125,7 +125,7 @@ module _ (plan : Network) (w : World) (h : HeadlineAmong all_ours plan w) where
     none_refused = record { lines = line_fair; agreed = λ number link accepted at opened. h.none_refused.agreed number link accepted at refl refl opened };
     within_rank = λ caller name item a. (let r = h.within_rank caller name item a in (source caller name item r.0, (r.1.0, r.1.1, r.1.2)));
     honest = record {
-      replies = λ number link accepted item at stage. h.honest.replies number link accepted item at refl stage;
+      replies = λ number link accepted item since at stage. h.honest.replies number link accepted item since at refl stage;
       done = λ name to item row has. h.honest.done name to item refl row has;
       answered = λ name to item a. h.honest.answered name to item refl a;
       rows = h.honest.rows;
@@ -156,5 +156,5 @@ others_can_do ours plan w = record {
   rejects = λ number link at on stage other. (_, record { link = link; at = at; on = on; stage = stage; other = other; offered = tt; is = refl });
   agrees = λ number link accepted at on stage other offered. (_, record { link = link; at = at; on = on; stage = stage; other = other; offered = offered; is = refl });
   stores = λ number link accepted item at on stage other pair. (_, record { link = link; accepted = accepted; at = at; on = on; stage = stage; other = other; pair = pair; is = refl });
-  replies = λ number link accepted item status at on stage other. (_, record { link = link; accepted = accepted; item = item; at = at; on = on; stage = stage; other = other; is = refl });
+  replies = λ number link accepted item since status at on stage other. (_, record { link = link; accepted = accepted; item = item; since = since; at = at; on = on; stage = stage; other = other; is = refl });
 }

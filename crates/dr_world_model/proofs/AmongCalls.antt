@@ -18,33 +18,31 @@ use Rattle.dr_ledger.specs.declared.item.Progress.TheVariants.{Waiting, Held, Do
 use Rattle.dr_ledger.specs.Books.{Book, Line, Arrival, Repeat, Settling, Requeuing, Dropping, Forgetting, Adoption, empty_book, after, row_after, Fold}
 use Rattle.dr_ledger.specs.Pairs.{pair_cmp}
 use Rattle.dr_ledger.specs.PlanRoutes.{plan_routing, keeps}
-use Rattle.dr_ledger.specs.Replies.{IsAdmitted, IsHeld, IsOver, IsWaiting, arrival_line, Reply}
+use Rattle.dr_ledger.specs.Replies.{IsAdmitted, IsHeld, IsOver, IsThereSince, IsWaiting, arrival_line, Reply}
 use Rattle.dr_ledger.proofs.Answering.{succeeds_now}
 use Rattle.dr_ledger.proofs.Folding.{fold_after}
-use Rattle.dr_ledger.proofs.Forgotten.{Apart, item_left, item_stays, row_left}
+use Rattle.dr_ledger.proofs.Forgotten.{item_left, row_left}
 use Rattle.dr_ledger.proofs.Growing.{row_put, given_up, settled_is, requeued_is, dropped_is}
-use Rattle.dr_ledger.proofs.Maps.{texts, same_or_not, cases_of}
+use Rattle.dr_ledger.proofs.Maps.{cases_of}
 use Rattle.dr_ledger.proofs.Succeeded.{NotesSuccess, succeeded_from}
 use Rattle.dr_ledger.proofs.Since.{Acknowledges, IsPlain}
 use Rattle.dr_ledger.specs.OneNode.{HasSucceededSince}
 use Rattle.dr_world_model.specs.Among.{Ours, AreOurs, HasEntry}
 use Rattle.dr_world_model.specs.Worlds.{World, with_book, with_armed}
 use Rattle.dr_world_model.specs.Calls.{Answer, Arriving, Settlement, Requeueing, GivingUp, LettingGo}
-use Rattle.dr_world_model.specs.Steps.{NoneIsPending}
 use Rattle.dr_world_model.specs.Claims.{Has, HadArrival, IsFairOutcome, WasCarriedOver, WasGivenUp}
 use Rattle.dr_world_model.proofs.AdoptionsKept.{no_row}
 use Rattle.dr_world_model.proofs.GivenUp.{given_up_arrived, given_up_now, given_up_on, given_up_repeated}
 use Rattle.dr_world_model.proofs.Walking.{walk_on, last_on}
-use Rattle.dr_world_model.proofs.Keeping.{IsRight, Grows, GoesOn, Noted, Took, grows_same, done_or_queued, arrived_grows, arrived_holds, arrived_has, arrived_took, arrived_from, arrived_done, arrived_had, arrived_row, arrived_goes_on, arrived_right, line_right, line_grows, line_from, line_took, row_set_grows, row_set_from, row_set_done, row_set_goes_on, row_set_right, given_silent, given_grows, given_from, given_done, given_goes_on, given_right, forgotten_grows, forgotten_from, forgotten_goes_on, forgotten_right}
-use Rattle.dr_world_model.proofs.Safety.{KeepsPending, WorldGrows, world_same, book_here, book_there}
+use Rattle.dr_world_model.proofs.Keeping.{IsRight, Grows, GoesOn, Noted, Took, grows_same, done_or_queued, arrived_grows, arrived_has, arrived_took, arrived_from, arrived_done, arrived_had, arrived_row, arrived_goes_on, arrived_right, line_right, line_grows, line_from, line_took, row_set_grows, row_set_from, row_set_done, row_set_goes_on, row_set_right, given_silent, given_grows, given_from, given_done, given_goes_on, given_right, forgotten_grows, forgotten_from, forgotten_goes_on, forgotten_right}
+use Rattle.dr_world_model.proofs.Safety.{WorldGrows, world_same, book_here}
 use Rattle.dr_world_model.proofs.CallsKept.{IsSuccess, fair_success, one_item, done_only, settled_not_dropped, settling_is}
-use Rattle.dr_world_model.proofs.AmongSafe.{IsSafeAmong, IsSentAmong, IsFairAmong, PassedBy, ReachedBy, fair_among, put_among, put_among_grows, pends_among, same_among, taken_push}
+use Rattle.dr_world_model.proofs.AmongSafe.{IsSafeAmong, IsSentAmong, IsFairAmong, PassedBy, ReachedBy, fair_among, put_among, put_among_grows, same_among, taken_push}
 
 -- the new world is safe, and has what the old one had
 pub record KeptAmong (ours : Ours) (plan : Network) (old new : World) : Type 0 where
   pub safe : IsSafeAmong ours plan new
   pub grows : WorldGrows old new
-  pub pends : KeepsPending old new
 
 pub not_both : (b : Bool) → b ≡ true → b ≡ false → ⊥
 not_both b t f = cc
@@ -127,13 +125,12 @@ module _ (ours : Ours) (plan : Network) (w : World) (safe : IsSafeAmong ours pla
       }
 
   pub unchanged_among : (new : World) → new ≡ w → KeptAmong ours plan w new
-  unchanged_among new is = subst (KeptAmong ours plan w) (sym is) (record { safe = safe; grows = world_same w; pends = λ number link item at c p h. h })
+  unchanged_among new is = subst (KeptAmong ours plan w) (sym is) (record { safe = safe; grows = world_same w })
 
   rearmed : (v : World) (armed : FinSet text_cmp) → KeptAmong ours plan w v → KeptAmong ours plan w (with_armed v armed)
   rearmed v armed k = record {
     safe = same_among ours plan v (with_armed v armed) k.safe refl refl k.safe.links;
     grows = record { books = k.grows.books; stood = k.grows.stood };
-    pends = k.pends;
   }
 
   -- the book after a line
@@ -145,21 +142,19 @@ module _ (ours : Ours) (plan : Network) (w : World) (safe : IsSafeAmong ours pla
       ((item : Instance) (to : Text) → WasGivenUp plan name (w.books name).lines item to → PassedBy ours plan w name b item to) →
       ((to : Text) (item : Instance) → map.get b.rows (item.uid, to) ≡ Some Done → map.get b.items item.uid ≡ Some item →
       ((map.get (w.books name).rows (item.uid, to) ≡ Some Done) × Has w name item) ⊎ ReachedBy ours w name b item to) →
-      KeepsPending w (with_book w name b) →
       ((to : Text) (item : Instance) → ours to ≡ true → NotesSuccess (w.books name).lines line item to → HadArrival w to name item) →
       (armed : FinSet text_cmp) → new ≡ with_armed (with_book w name b) armed → KeptAmong ours plan w new
-  kept_line name b line new own is_after lines plain fair grows right news on gives dones pends answers armed is =
+  kept_line name b line new own is_after lines plain fair grows right news on gives dones answers armed is =
       let old = w.books name in
       let T : List Line → Instance → Text → Type 0 = λ ls item to. HasSucceededSince ls item to in
       let F : List Line → Type 0 = λ ls. (l : Line) → Contains ls l → Contains old.lines l ⊎ IsFairAmong ours l in
       subst (KeptAmong ours plan w) (sym is) (rearmed (with_book w name b) armed (record {
         safe = put_among ours plan w name b safe grows right (fold_after line old b (safe.folds name) is_after) (λ other. absurd (not_both (ours name) own other))
-            (λ item to t. subst (λ ls. T ls item to) (sym lines) (taken_push old.lines line item to plain t)) news on gives dones pends
+            (λ item to t. subst (λ ls. T ls item to) (sym lines) (taken_push old.lines line item to plain t)) news on gives dones
             (subst F (sym lines) (fair_among ours old.lines line fair))
             (let S : List Line → Type 0 = λ ls. (to : Text) (item : Instance) → ours to ≡ true → HasSucceededSince ls item to → HasSucceededSince old.lines item to ⊎ HadArrival w to name item in
             subst S (sym lines) (λ to item near h. elim (succeeded_from old.lines line item to h) [ inl was ↦ inl was | inr noted ↦ inr (answers to item near noted) ]));
         grows = put_among_grows ours plan w name b safe grows;
-        pends = pends;
       }))
 
   -- the book is as it was
@@ -167,7 +162,6 @@ module _ (ours : Ours) (plan : Network) (w : World) (safe : IsSafeAmong ours pla
   kept_same name b new same armed is =
       let old = w.books name in
       let grows : Grows old b = subst (Grows old) (sym same) (grows_same _) in
-      let pends : KeepsPending w (with_book w name b) = pends_among ours plan w name b safe grows (λ item h. subst (λ (x : Book). map.get x.items item.uid ≡ Some item) (sym same) h) in
       let P : Book → Type 0 = λ x. x ≡ Fold x.lines in
       let Q : Book → Type 0 = λ x. ours name ≡ false → x ≡ empty_book in
       let T : Book → Type 0 = λ x. (item : Instance) (to : Text) → HasSucceededSince old.lines item to → HasSucceededSince x.lines item to in
@@ -179,11 +173,9 @@ module _ (ours : Ours) (plan : Network) (w : World) (safe : IsSafeAmong ours pla
             (subst G (sym same) (λ item to g. inl g))
             (λ item to g. inr (inl (subst (λ (x : Book). WasGivenUp plan name x.lines item to) (sym same) g)))
             (λ to item h i. inl (subst (λ (x : Book). map.get x.rows (item.uid, to) ≡ Some Done) same h, subst (λ (x : Book). map.get x.items item.uid ≡ Some item) same i))
-            pends
             (λ line h. inl (subst (λ (x : Book). Contains x.lines line) same h))
             (λ to item near h. inl (subst (λ (x : Book). HasSucceededSince x.lines item to) same h));
         grows = put_among_grows ours plan w name b safe grows;
-        pends = pends;
       }))
 
   kept_arrived : (name caller : Text) (item : Instance) (b : Book) (new : World) → ours name ≡ true → IsAdmitted (plan_routing plan name) caller item (w.books name) →
@@ -229,7 +221,6 @@ module _ (ours : Ours) (plan : Network) (w : World) (safe : IsSafeAmong ours pla
         | inr still ↦ inr (inl still)
       ])
       (λ to i h g. (let was = arrived_done plan name caller item stood old right admitted (i.uid, to) h in inl (was, arrived_had plan name caller item stood old right admitted i to Done was g)))
-      (pends_among ours plan w name book safe grows (arrived_holds plan name caller item stood old right admitted))
       (λ to i near noted. absurd (let e : line ≡ Settling i.uid to (Status noted.status) noted.now = noted.is in let f : ⊥ = cc in f))
       w.armed refl in
       subst (λ v. KeptAmong ours plan w v × HadArrival v name caller item) (sym (is ∙ ap (λ x. with_armed (with_book w name x) armed) is_book)) (rearmed _ armed kept, there)
@@ -261,7 +252,6 @@ module _ (ours : Ours) (plan : Network) (w : World) (safe : IsSafeAmong ours pla
         | inr still ↦ inr (inl still)
       ])
       (λ to i h g. inl (h, g))
-      (pends_among ours plan w name book safe grows (λ i h. h))
       (λ to i near noted. absurd (let e : Repeat caller item ≡ Settling i.uid to (Status noted.status) noted.now = noted.is in let f : ⊥ = cc in f))
       w.armed refl in
       subst (λ v. KeptAmong ours plan w v × HadArrival v name caller item) (sym is) (rearmed _ armed kept, there)
@@ -311,7 +301,6 @@ module _ (ours : Ours) (plan : Network) (w : World) (safe : IsSafeAmong ours pla
         | inl done ↦ inl (done, g)
         | inr e ↦ inr (reached i to e.0 e.1 g)
       ])
-      (pends_among ours plan w name book safe grows (λ i h. h))
       answers
       armed is
 
@@ -326,21 +315,22 @@ module _ (ours : Ours) (plan : Network) (w : World) (safe : IsSafeAmong ours pla
   none_over name uid other h = no_row h.there.0 (sym (map.get-empty text_cmp uid) ∙ (ap (λ (x : Book). map.get x.items uid) (sym (safe.others name other)) ∙ h.there.1))
 
   -- ---- settle
-  pub settlement_among : (name uid dest : Text) (outcome : Outcome) (reply : Answer) (new : World) → (ours name ≡ true → ours dest ≡ true → IsFairOutcome outcome) →
-      (ours name ≡ true → ours dest ≡ true → outcome ≡ Status 0 → (item : Instance) → item.uid ≡ uid → Has w name item → HadArrival w dest name item) →
-      Settlement w name uid dest outcome reply new → KeptAmong ours plan w new
-  settlement_among name uid dest outcome (Ok done) new fair honest s = elim (cases_of (ours name)) [
-    | inr other ↦ absurd (none_waits name uid dest other s.call.0)
+  pub settlement_among : (name uid : Text) (since : ℕ) (dest : Text) (outcome : Outcome) (reply : Answer) (new : World) → (ours name ≡ true → ours dest ≡ true → IsFairOutcome outcome) →
+      (ours name ≡ true → ours dest ≡ true → outcome ≡ Status 0 → IsThereSince (w.books name).lines uid since → (item : Instance) → item.uid ≡ uid → Has w name item → HadArrival w dest name item) →
+      Settlement w name uid since dest outcome reply new → KeptAmong ours plan w new
+  settlement_among name uid since dest outcome (Ok done) new fair honest s = elim (cases_of (ours name)) [
+    | inr other ↦ absurd (none_waits name uid dest other s.call.0.0)
     | inl own ↦ (
         let old = w.books name in
-        let waits = s.call.0 in
+        let waits = s.call.0.0 in
+        let there = s.call.0.1 in
         let row = row_after waits.0 outcome w.time in
         let line = Settling uid dest outcome w.time in
         let put = settled_is uid dest outcome w.time waits.0 waits.1 old waits.2 in
         let is_book : s.book ≡ row_put old (uid, dest) row line = s.call.1 ∙ put in
         kept_row name uid dest (Waiting waits.0 waits.1) row line new own waits.2 (settled_not_dropped waits.0 outcome w.time) (sym put) (λ e. cc) (settling_fair ours uid dest outcome w.time (fair own)) (λ since. refl) (settling_silent uid dest outcome w.time)
         (λ is item same has. elim (cases_of (ours dest)) [
-          | inl near ↦ inl (near, honest own near (done_only outcome (fair own near) waits.0 w.time is) item same has)
+          | inl near ↦ inl (near, honest own near (done_only outcome (fair own near) waits.0 w.time is) there item same has)
           | inr far ↦ inr (far, taken_now old.lines old (safe.folds name) uid dest outcome w.time waits.0 item same is has)
         ])
         (λ to item near noted.
@@ -349,17 +339,17 @@ module _ (ours : Ours) (plan : Network) (w : World) (safe : IsSafeAmong ours pla
         let zero : noted.status ≡ 0 = fair_success noted.status (subst IsFairOutcome parts.2 (fair own here)) noted.success in
         let P : Book → Type 0 = λ b. map.get b.items item.uid ≡ Some item in
         let has : Has w name item = subst P (sym (safe.folds name)) noted.had in
-        subst (λ t. HadArrival w t name item) parts.1 (honest own here (parts.2 ∙ ap Status zero) item (sym parts.0) has))
+        subst (λ t. HadArrival w t name item) parts.1 (honest own here (parts.2 ∙ ap Status zero) there item (sym parts.0) has))
         s.called.armed (s.called.is ∙ ap (λ x. with_armed (with_book w name x) s.called.armed) is_book)
         )
   ]
-  settlement_among name uid dest outcome (Err fault.NotWaiting) new fair honest s = kept_same name s.book new s.call.1 s.called.armed s.called.is
-  settlement_among name uid dest outcome (Err fault.Store) new fair honest s = kept_same name s.book new s.call s.called.armed s.called.is
-  settlement_among name uid dest outcome (Err fault.Memory) new fair honest s = kept_same name s.book new s.call s.called.armed s.called.is
-  settlement_among name uid dest outcome (Err fault.NoLine) new fair honest s = absurd s.call
-  settlement_among name uid dest outcome (Err fault.Conflict) new fair honest s = absurd s.call
-  settlement_among name uid dest outcome (Err fault.NotHeld) new fair honest s = absurd s.call
-  settlement_among name uid dest outcome (Err fault.NotOver) new fair honest s = absurd s.call
+  settlement_among name uid since dest outcome (Err fault.NotWaiting) new fair honest s = kept_same name s.book new s.call.1 s.called.armed s.called.is
+  settlement_among name uid since dest outcome (Err fault.Store) new fair honest s = kept_same name s.book new s.call s.called.armed s.called.is
+  settlement_among name uid since dest outcome (Err fault.Memory) new fair honest s = kept_same name s.book new s.call s.called.armed s.called.is
+  settlement_among name uid since dest outcome (Err fault.NoLine) new fair honest s = absurd s.call
+  settlement_among name uid since dest outcome (Err fault.Conflict) new fair honest s = absurd s.call
+  settlement_among name uid since dest outcome (Err fault.NotHeld) new fair honest s = absurd s.call
+  settlement_among name uid since dest outcome (Err fault.NotOver) new fair honest s = absurd s.call
 
   -- ---- requeue
   pub requeue_among : (name uid dest : Text) (answer : Answer) (new : World) → Requeueing w name uid dest answer new → KeptAmong ours plan w new
@@ -404,7 +394,6 @@ module _ (ours : Ours) (plan : Network) (w : World) (safe : IsSafeAmong ours pla
         ])
         (λ i to g. inr (inl (given_up_on plan name b.lines line i to (λ e. cc) (given_silent plan name uid dest w.time stood b right) g)))
         (λ to i h g. inl (given_done plan name uid dest w.time stood b right (i.uid, to) h, g))
-        (pends_among ours plan w name book safe grows (λ i h. h))
         (λ to i near noted. absurd (let e : Dropping uid dest w.time ≡ Settling i.uid to (Status noted.status) noted.now = noted.is in let f : ⊥ = cc in f))
         d.called.armed (d.called.is ∙ ap (λ x. with_armed (with_book w name x) d.called.armed) (d.call.1 ∙ is_after))
         )
@@ -418,21 +407,8 @@ module _ (ours : Ours) (plan : Network) (w : World) (safe : IsSafeAmong ours pla
   giving_up_among name uid dest (Err fault.NotOver) new d = absurd d.call
 
   -- ---- forget
-  pends_forgotten : (name uid : Text) → NoneIsPending w name uid → KeepsPending w (with_book w name (after (Forgetting uid) (w.books name)))
-  pends_forgotten name uid none number link item at c p had = elim (same_or_not texts link.caller name) [
-    | inr f ↦ (let P : Book → Type 0 = λ x. map.get x.items item.uid ≡ Some item in subst P (sym (book_there w.books name (after (Forgetting uid) (w.books name)) link.caller f)) had)
-    | inl e ↦ (
-        let book = after (Forgetting uid) (w.books name) in
-        let P : Book → Type 0 = λ x. map.get x.items item.uid ≡ Some item in
-        let Q : Text → Type 0 = λ n. map.get (w.books n).items item.uid ≡ Some item in
-        let R : Text → Type 0 = λ n. Has (with_book w name book) n item in
-        let apart : Apart item.uid uid = elim (same_or_not texts item.uid uid) [ inl same ↦ absurd (none number link item at e c p same) | inr other ↦ other ] in
-        subst R (sym e) (subst P (sym (book_here w.books name book)) (item_stays (w.books name) uid item.uid item apart (subst Q e had)))
-        )
-  ]
-
-  pub forgetting_among : (name uid : Text) (answer : Answer) (new : World) → NoneIsPending w name uid → LettingGo w name uid answer new → KeptAmong ours plan w new
-  forgetting_among name uid (Ok done) new none d = elim (cases_of (ours name)) [
+  pub forgetting_among : (name uid : Text) (answer : Answer) (new : World) → LettingGo w name uid answer new → KeptAmong ours plan w new
+  forgetting_among name uid (Ok done) new d = elim (cases_of (ours name)) [
     | inr other ↦ absurd (none_over name uid other d.call.0)
     | inl own ↦ (
         let b = w.books name in
@@ -445,15 +421,14 @@ module _ (ours : Ours) (plan : Network) (w : World) (safe : IsSafeAmong ours pla
         (λ i to g. inl (forgotten_goes_on plan name uid stood b right over i to g))
         (λ i to g. inr (inl (given_up_on plan name b.lines (Forgetting uid) i to (λ e. cc) (forgetting_silent uid) g)))
         (λ to i h g. inl ((row_left b uid (i.uid, to) Done h).1, (item_left b uid i.uid i g).1))
-        (pends_forgotten name uid none)
         (λ to i near noted. absurd (let e : Forgetting uid ≡ Settling i.uid to (Status noted.status) noted.now = noted.is in let f : ⊥ = cc in f))
         d.called.armed (d.called.is ∙ ap (λ x. with_armed (with_book w name x) d.called.armed) d.call.1)
         )
   ]
-  forgetting_among name uid (Err fault.NotOver) new none d = kept_same name d.book new d.call.1 d.called.armed d.called.is
-  forgetting_among name uid (Err fault.Store) new none d = kept_same name d.book new d.call d.called.armed d.called.is
-  forgetting_among name uid (Err fault.Memory) new none d = kept_same name d.book new d.call d.called.armed d.called.is
-  forgetting_among name uid (Err fault.NoLine) new none d = absurd d.call
-  forgetting_among name uid (Err fault.Conflict) new none d = absurd d.call
-  forgetting_among name uid (Err fault.NotWaiting) new none d = absurd d.call
-  forgetting_among name uid (Err fault.NotHeld) new none d = absurd d.call
+  forgetting_among name uid (Err fault.NotOver) new d = kept_same name d.book new d.call.1 d.called.armed d.called.is
+  forgetting_among name uid (Err fault.Store) new d = kept_same name d.book new d.call d.called.armed d.called.is
+  forgetting_among name uid (Err fault.Memory) new d = kept_same name d.book new d.call d.called.armed d.called.is
+  forgetting_among name uid (Err fault.NoLine) new d = absurd d.call
+  forgetting_among name uid (Err fault.Conflict) new d = absurd d.call
+  forgetting_among name uid (Err fault.NotWaiting) new d = absurd d.call
+  forgetting_among name uid (Err fault.NotHeld) new d = absurd d.call

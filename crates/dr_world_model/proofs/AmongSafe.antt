@@ -13,15 +13,15 @@ use Rattle.dr_ledger.specs.declared.item.Outcome.{Outcome}
 use Rattle.dr_ledger.specs.declared.item.Progress.TheVariants.{Done}
 use Rattle.dr_ledger.specs.Books.{Book, Line, Settling, Adoption, empty_book, Fold}
 use Rattle.dr_ledger.proofs.Answering.{succeeded_still}
-use Rattle.dr_ledger.proofs.Maps.{texts, same_or_not, got}
+use Rattle.dr_ledger.proofs.Maps.{got}
 use Rattle.dr_ledger.specs.OneNode.{HasSucceededSince}
 use Rattle.dr_world_model.specs.Among.{Ours, HasEntry}
 use Rattle.dr_world_model.specs.Worlds.{World, Link, Contexts, Stage, Asking, Answering, Rejecting, Open, Storing, Replying, Gone, with_book, with_link}
 use Rattle.dr_world_model.specs.Claims.{Has, HadArrival, IsToSend, WasCarriedOver, WasGivenUp, IsFairOutcome, IsFairStatus, CoversHop}
-use Rattle.dr_world_model.specs.Steps.{IsLink, pending}
+use Rattle.dr_world_model.specs.Steps.{IsLink}
 use Rattle.dr_world_model.proofs.Lookups.{numbers}
 use Rattle.dr_world_model.proofs.Keeping.{IsRight, Grows, GoesOn, Took, grows_same}
-use Rattle.dr_world_model.proofs.Safety.{HasStill, KeepsPending, WorldGrows, each_book, book_here, book_there, same_grows}
+use Rattle.dr_world_model.proofs.Safety.{WasHad, WorldGrows, each_book, had_still, same_grows}
 
 -- ---- what another product answered
 pub taken_push : (lines : List Line) (line : Line) (item : Instance) (to : Text) → line ≢ Adoption → HasSucceededSince lines item to → HasSucceededSince (lines ++ line ∷ []) item to
@@ -53,24 +53,24 @@ pub record IsSentAmong (ours : Ours) (plan : Network) (w : World) (name to : Tex
   pub entry : ours to ≡ true → HasEntry ours plan w name to item
 
 -- what one of ours has under way
-abbrev pub IsOwn : Ours → Network → World → Text → Text → Bool → Instance → Type 0
-IsOwn ours plan w caller receiver connected item = ours caller ≡ true → IsSentAmong ours plan w caller receiver item × HasStill w caller connected item
+abbrev pub IsOwn : Ours → Network → World → Text → Text → Instance → ℕ → Type 0
+IsOwn ours plan w caller receiver item since = ours caller ≡ true → IsSentAmong ours plan w caller receiver item × WasHad (w.books caller) since item
 
 abbrev pub CoversOwn : Ours → Network → Text → Text → Contexts → Type 0
 CoversOwn ours plan caller receiver accepted = ours caller ≡ true → ours receiver ≡ true → CoversHop plan caller receiver accepted
 
-abbrev pub IsFairFor : Ours → Network → World → Text → Text → Bool → Stage → Type 0
-IsFairFor ours plan w caller receiver connected Asking = Unit {0}
-IsFairFor ours plan w caller receiver connected Rejecting = Unit {0}
-IsFairFor ours plan w caller receiver connected Gone = Unit {0}
-IsFairFor ours plan w caller receiver connected (Answering accepted) = CoversOwn ours plan caller receiver accepted
-IsFairFor ours plan w caller receiver connected (Open accepted) = CoversOwn ours plan caller receiver accepted
-IsFairFor ours plan w caller receiver connected (Storing accepted item) = CoversOwn ours plan caller receiver accepted × IsOwn ours plan w caller receiver connected item
-IsFairFor ours plan w caller receiver connected (Replying accepted item status) = CoversOwn ours plan caller receiver accepted × IsOwn ours plan w caller receiver connected item
+abbrev pub IsFairFor : Ours → Network → World → Text → Text → Stage → Type 0
+IsFairFor ours plan w caller receiver Asking = Unit {0}
+IsFairFor ours plan w caller receiver Rejecting = Unit {0}
+IsFairFor ours plan w caller receiver Gone = Unit {0}
+IsFairFor ours plan w caller receiver (Answering accepted) = CoversOwn ours plan caller receiver accepted
+IsFairFor ours plan w caller receiver (Open accepted) = CoversOwn ours plan caller receiver accepted
+IsFairFor ours plan w caller receiver (Storing accepted item since) = CoversOwn ours plan caller receiver accepted × IsOwn ours plan w caller receiver item since
+IsFairFor ours plan w caller receiver (Replying accepted item since status) = CoversOwn ours plan caller receiver accepted × IsOwn ours plan w caller receiver item since
     × (ours receiver ≡ true → (ours caller ≡ true → IsFairStatus status) × (status ≡ 0 → HadArrival w receiver caller item))
 
 abbrev pub IsFairLinkAmong : Ours → Network → World → Link → Type 0
-IsFairLinkAmong ours plan w link = IsFairFor ours plan w link.caller link.receiver link.caller_connected link.stage
+IsFairLinkAmong ours plan w link = IsFairFor ours plan w link.caller link.receiver link.stage
 
 -- what each act keeps
 pub record IsSafeAmong (ours : Ours) (plan : Network) (w : World) : Type 0 where
@@ -106,20 +106,18 @@ module _ (ours : Ours) (plan : Network) (old new : World) (g : WorldGrows old ne
   pub sent_among_still : (name to : Text) (item : Instance) → IsSentAmong ours plan old name to item → IsSentAmong ours plan new name to item
   sent_among_still name to item s = record { goes = s.goes; entry = λ own. entry_still name to item (s.entry own) }
 
-  own_still : (caller receiver : Text) (connected : Bool) (item : Instance) → (connected ≡ true → Has old caller item → Has new caller item) → IsOwn ours plan old caller receiver connected item →
-      IsOwn ours plan new caller receiver connected item
-  own_still caller receiver connected item has h own = (sent_among_still caller receiver item (h own).0, λ on. has on ((h own).1 on))
+  own_still : (caller receiver : Text) (item : Instance) (since : ℕ) → IsOwn ours plan old caller receiver item since → IsOwn ours plan new caller receiver item since
+  own_still caller receiver item since h own = (sent_among_still caller receiver item (h own).0, had_still (old.books caller) (new.books caller) since item (g.books caller) (h own).1)
 
-  pub among_still : (caller receiver : Text) (connected : Bool) (stage : Stage) → ((item : Instance) → connected ≡ true → pending stage ≡ Some item → Has old caller item → Has new caller item) →
-      IsFairFor ours plan old caller receiver connected stage → IsFairFor ours plan new caller receiver connected stage
-  among_still caller receiver connected Asking has h = tt
-  among_still caller receiver connected Rejecting has h = tt
-  among_still caller receiver connected Gone has h = tt
-  among_still caller receiver connected (Answering accepted) has h = h
-  among_still caller receiver connected (Open accepted) has h = h
-  among_still caller receiver connected (Storing accepted item) has h = (h.0, own_still caller receiver connected item (λ on had. has item on refl had) h.1)
-  among_still caller receiver connected (Replying accepted item status) has h =
-      (h.0, own_still caller receiver connected item (λ on had. has item on refl had) h.1, λ own. ((h.2 own).0, λ z. (g.books receiver).took caller item ((h.2 own).1 z)))
+  pub among_still : (caller receiver : Text) (stage : Stage) → IsFairFor ours plan old caller receiver stage → IsFairFor ours plan new caller receiver stage
+  among_still caller receiver Asking h = tt
+  among_still caller receiver Rejecting h = tt
+  among_still caller receiver Gone h = tt
+  among_still caller receiver (Answering accepted) h = h
+  among_still caller receiver (Open accepted) h = h
+  among_still caller receiver (Storing accepted item since) h = (h.0, own_still caller receiver item since h.1)
+  among_still caller receiver (Replying accepted item since status) h =
+      (h.0, own_still caller receiver item since h.1, λ own. ((h.2 own).0, λ z. (g.books receiver).took caller item ((h.2 own).1 z)))
 
   -- what was passed on is so still, where the book is the same
   pub passed_still : (n : Text) (b : Book) (item : Instance) (to : Text) → PassedBy ours plan old n b item to → PassedBy ours plan new n b item to
@@ -148,11 +146,10 @@ module _ (ours : Ours) (plan : Network) (w : World) (name : Text) (b : Book) (sa
       ((item : Instance) (to : Text) → WasGivenUp plan name (w.books name).lines item to → PassedBy ours plan w name b item to) →
       ((to : Text) (item : Instance) → map.get b.rows (item.uid, to) ≡ Some Done → map.get b.items item.uid ≡ Some item →
       ((map.get (w.books name).rows (item.uid, to) ≡ Some Done) × Has w name item) ⊎ ReachedBy ours w name b item to) →
-      KeepsPending w put →
       ((line : Line) → Contains b.lines line → Contains (w.books name).lines line ⊎ IsFairAmong ours line) →
       ((to : Text) (item : Instance) → ours to ≡ true → HasSucceededSince b.lines item to → HasSucceededSince (w.books name).lines item to ⊎ HadArrival w to name item) →
       IsSafeAmong ours plan put
-  put_among right fold other still news on gives dones pends fair successes =
+  put_among right fold other still news on gives dones fair successes =
       let g = put_among_grows in
       let reached : (item : Instance) (to : Text) → ReachedBy ours w name (w.books name) item to → ReachedBy ours w name b item to = λ item to r.
       elim r [ inl own ↦ inl own | inr away ↦ inr (away.0, still item to away.1) ] in
@@ -190,20 +187,8 @@ module _ (ours : Ours) (plan : Network) (w : World) (name : Text) (b : Book) (sa
               | inr had ↦ (g.books to).took name item had
             ])
             (λ n to item own h. (g.books to).took n item (safe.answered n to item own h));
-        links = λ number link h. among_still ours plan w put g link.caller link.receiver link.caller_connected link.stage (λ item c p had. pends number link item h c p had) (safe.links number link h);
+        links = λ number link h. among_still ours plan w put g link.caller link.receiver link.stage (safe.links number link h);
       }
-
-  -- where the node has all that it had, it has what it has pending
-  pub pends_among : ((item : Instance) → map.get (w.books name).items item.uid ≡ Some item → map.get b.items item.uid ≡ Some item) → KeepsPending w put
-  pends_among holds number link item at c p had = elim (same_or_not texts link.caller name) [
-    | inr f ↦ (let P : Book → Type 0 = λ x. map.get x.items item.uid ≡ Some item in subst P (sym (book_there w.books name b link.caller f)) had)
-    | inl e ↦ (
-        let P : Book → Type 0 = λ x. map.get x.items item.uid ≡ Some item in
-        let Q : Text → Type 0 = λ n. map.get (w.books n).items item.uid ≡ Some item in
-        let R : Text → Type 0 = λ n. Has put n item in
-        subst R (sym e) (subst P (sym (book_here w.books name b)) (holds item (subst Q e had)))
-        )
-  ]
 
 -- ---- a world with the same books and fair links
 pub same_among : (ours : Ours) (plan : Network) (old new : World) → IsSafeAmong ours plan old → new.books ≡ old.books → new.stood ≡ old.stood →
@@ -220,7 +205,6 @@ same_among ours plan old new safe same stood links =
     let S : Books → Type 0 = λ books. (name caller to : Text) (item : Instance) → Took (books name) caller item → Sends plan name caller item.key to → GoesOn (books name) item to ⊎ (WasGivenUp plan name (books name).lines item to ⊎ R books name item to) in
     let C : Books → Books → Type 0 = λ stood books. (name to : Text) (item : Instance) → IsToSend (stood name) item to → Goes plan item.key name to × (GoesOn (books name) item to ⊎ (WasGivenUp plan name (books name).lines item to ⊎ R books name item to)) in
     let D : Books → Type 0 = λ books. (name to : Text) (item : Instance) → map.get (books name).rows (item.uid, to) ≡ Some Done → map.get (books name).items item.uid ≡ Some item → R books name item to in
-    let H : Books → Text → Instance → Type 0 = λ books caller item. map.get (books caller).items item.uid ≡ Some item in
     record {
       books = subst (λ s. P s new.books) (sym stood) (subst (P old.stood) (sym same) safe.books);
       folds = subst Fs (sym same) safe.folds;
@@ -231,7 +215,7 @@ same_among ours plan old new safe same stood links =
       sent = subst S (sym same) safe.sent;
       carried = subst (λ s. C s new.books) (sym stood) (subst (C old.stood) (sym same) safe.carried);
       done = subst D (sym same) safe.done;
-      links = λ number link h. among_still ours plan old new g link.caller link.receiver link.caller_connected link.stage (λ item c p had. subst (λ books. H books link.caller item) (sym same) had) (links number link h);
+      links = λ number link h. among_still ours plan old new g link.caller link.receiver link.stage (links number link h);
     }
 
 pub put_link_among : (ours : Ours) (plan : Network) (w : World) (number : ℕ) (link : Link) → IsSafeAmong ours plan w → IsFairLinkAmong ours plan w link → IsSafeAmong ours plan (with_link w number link)

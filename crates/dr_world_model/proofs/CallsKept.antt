@@ -19,8 +19,8 @@ use Rattle.dr_ledger.specs.declared.item.Progress.TheVariants.{Waiting, Held, Do
 use Rattle.dr_ledger.specs.Books.{Book, Line, Arrival, Repeat, Settling, Requeuing, Dropping, Forgetting, Adoption, after, row_after, tried, is_success, is_refused_for_now, Fold}
 use Rattle.dr_ledger.specs.OneNode.{HasSucceededSince}
 use Rattle.dr_ledger.specs.PlanRoutes.{plan_routing, keeps}
-use Rattle.dr_ledger.specs.Replies.{IsAdmitted, arrival_line, Reply}
-use Rattle.dr_ledger.proofs.Forgotten.{Apart, item_left, item_stays, row_left}
+use Rattle.dr_ledger.specs.Replies.{IsAdmitted, IsThereSince, arrival_line, Reply}
+use Rattle.dr_ledger.proofs.Forgotten.{item_left, row_left}
 use Rattle.dr_ledger.proofs.Folding.{fold_after}
 use Rattle.dr_ledger.proofs.Succeeded.{NotesSuccess, succeeded_before, succeeded_from}
 use Rattle.dr_ledger.proofs.Growing.{inside as some_inside, row_put, given_up, settled_is, requeued_is, dropped_is}
@@ -28,18 +28,16 @@ use Rattle.dr_ledger.proofs.Maps.{texts, same_or_not}
 use Rattle.dr_ledger.proofs.Since.{Acknowledges, IsPlain}
 use Rattle.dr_world_model.specs.Worlds.{World, with_book, with_armed}
 use Rattle.dr_world_model.specs.Calls.{Answer, Arriving, Settlement, Requeueing, GivingUp, LettingGo}
-use Rattle.dr_world_model.specs.Steps.{NoneIsPending}
 use Rattle.dr_world_model.specs.Claims.{Has, HadArrival, HasSource, IsFairLine, IsFairOutcome, IsFairStatus, WasCarriedOver, WasGivenUp}
 use Rattle.dr_world_model.proofs.GivenUp.{given_up_arrived, given_up_now, given_up_on, given_up_repeated}
 use Rattle.dr_world_model.proofs.Walking.{walk_on, last_on}
-use Rattle.dr_world_model.proofs.Keeping.{IsRight, Grows, GoesOn, Noted, Took, fair_push, grows_same, done_or_queued, arrived_grows, arrived_holds, arrived_has, arrived_took, arrived_from, arrived_done, arrived_had, arrived_row, arrived_goes_on, arrived_right, line_right, line_grows, line_from, line_took, row_set_grows, row_set_from, row_set_done, row_set_goes_on, row_set_right, given_silent, given_grows, given_from, given_done, given_goes_on, given_right, forgotten_grows, forgotten_from, forgotten_goes_on, forgotten_right}
-use Rattle.dr_world_model.proofs.Safety.{IsSent, IsSafe, PassesBy, KeepsPending, WorldGrows, world_same, put_grows, put_book, pends_by, book_here, book_there, same_books}
+use Rattle.dr_world_model.proofs.Keeping.{IsRight, Grows, GoesOn, Noted, Took, fair_push, grows_same, done_or_queued, arrived_grows, arrived_has, arrived_took, arrived_from, arrived_done, arrived_had, arrived_row, arrived_goes_on, arrived_right, line_right, line_grows, line_from, line_took, row_set_grows, row_set_from, row_set_done, row_set_goes_on, row_set_right, given_silent, given_grows, given_from, given_done, given_goes_on, given_right, forgotten_grows, forgotten_from, forgotten_goes_on, forgotten_right}
+use Rattle.dr_world_model.proofs.Safety.{IsSent, IsSafe, PassesBy, WorldGrows, world_same, put_grows, put_book, book_here, same_books}
 
 -- the new world is safe, and has what the old one had
 pub record Kept (plan : Network) (old new : World) : Type 0 where
   pub safe : IsSafe plan new
   pub grows : WorldGrows old new
-  pub pends : KeepsPending old new
 
 -- a node has one item of a uid
 pub one_item : (w : World) (name : Text) (x y : Instance) → x.uid ≡ y.uid → Has w name x → Has w name y → x ≡ y
@@ -140,14 +138,13 @@ module _ (plan : Network) (w : World) (safe : IsSafe plan w) where
       }
 
   pub unchanged : (new : World) → new ≡ w → Kept plan w new
-  unchanged new is = subst (Kept plan w) (sym is) (record { safe = safe; grows = world_same w; pends = λ number link item at c p h. h })
+  unchanged new is = subst (Kept plan w) (sym is) (record { safe = safe; grows = world_same w })
 
   -- ---- calls of a book
   rearmed : (v : World) (armed : FinSet text_cmp) → Kept plan w v → Kept plan w (with_armed v armed)
   rearmed v armed k = record {
     safe = same_books plan v (with_armed v armed) k.safe refl refl k.safe.links;
     grows = record { books = k.grows.books; stood = k.grows.stood };
-    pends = k.pends;
   }
 
   kept_put : (name : Text) (b : Book) (new : World) → Grows (w.books name) b → IsRight plan name (w.stood name) b →
@@ -157,12 +154,11 @@ module _ (plan : Network) (w : World) (safe : IsSafe plan w) where
       ((item : Instance) (to : Text) → WasGivenUp plan name (w.books name).lines item to → PassesBy plan w name b item to) →
       ((to : Text) (item : Instance) → map.get b.rows (item.uid, to) ≡ Some Done → map.get b.items item.uid ≡ Some item →
       ((map.get (w.books name).rows (item.uid, to) ≡ Some Done) × Has w name item) ⊎ HadArrival w to name item) →
-      KeepsPending w (with_book w name b) →
       ((line : Line) → Contains b.lines line → Contains (w.books name).lines line ⊎ IsFairLine line) →
       b ≡ Fold b.lines → ((to : Text) (item : Instance) → HasSucceededSince b.lines item to → HasSucceededSince (w.books name).lines item to ⊎ HadArrival w to name item) →
       (armed : FinSet text_cmp) → new ≡ with_armed (with_book w name b) armed → Kept plan w new
-  kept_put name b new g right news on gives dones pends fair fold successes armed is = subst (Kept plan w) (sym is)
-      (rearmed (with_book w name b) armed (record { safe = put_book w name b plan safe g right news on gives dones pends fair fold successes; grows = put_grows w name b plan safe g right; pends = pends }))
+  kept_put name b new g right news on gives dones fair fold successes armed is = subst (Kept plan w) (sym is)
+      (rearmed (with_book w name b) armed (record { safe = put_book w name b plan safe g right news on gives dones fair fold successes; grows = put_grows w name b plan safe g right }))
 
   kept_same : (name : Text) (b : Book) (new : World) → b ≡ w.books name → (armed : FinSet text_cmp) → new ≡ with_armed (with_book w name b) armed → Kept plan w new
   kept_same name b new same armed is =
@@ -173,7 +169,6 @@ module _ (plan : Network) (w : World) (safe : IsSafe plan w) where
       (λ item to h. inl (subst (λ x. GoesOn x item to) (sym same) h))
       (λ item to h. inr (inr (subst (λ (x : Book). WasGivenUp plan name x.lines item to) (sym same) h)))
       (λ to item h i. inl (subst (λ (x : Book). map.get x.rows (item.uid, to) ≡ Some Done) same h, subst (λ (x : Book). map.get x.items item.uid ≡ Some item) same i))
-      (pends_by w name b plan safe grows right (λ item h. subst (λ (x : Book). map.get x.items item.uid ≡ Some item) (sym same) h))
       (λ line h. inl (subst (λ (x : Book). Contains x.lines line) same h))
       (let P : Book → Type 0 = λ x. x ≡ Fold x.lines in subst P (sym same) (safe.folds name))
       (λ to item h. inl (subst (λ (x : Book). HasSucceededSince x.lines item to) same h))
@@ -219,7 +214,6 @@ module _ (plan : Network) (w : World) (safe : IsSafe plan w) where
         | inr still ↦ inr (inr still)
       ])
       (λ to i h g. (let was = arrived_done plan name caller item stood old right admitted (i.uid, to) h in inl (was, arrived_had plan name caller item stood old right admitted i to Done was g)))
-      (pends_by w name book plan safe grows book_right (arrived_holds plan name caller item stood old right admitted))
       (fair_push old.lines (arrival_line (plan_routing plan name) caller item) tt)
       (fold_after (arrival_line (plan_routing plan name) caller item) old book (safe.folds name) refl)
       (λ to i h. inl (succeeded_before old.lines (arrival_line (plan_routing plan name) caller item) (λ u d o n e. cc) i to h))
@@ -252,7 +246,6 @@ module _ (plan : Network) (w : World) (safe : IsSafe plan w) where
         | inr still ↦ inr (inr still)
       ])
       (λ to i h g. inl (h, g))
-      (pends_by w name book plan safe grows book_right (λ i h. h))
       (fair_push old.lines (Repeat caller item) tt)
       (fold_after (Repeat caller item) old book (safe.folds name) refl)
       (λ to i h. inl (succeeded_before old.lines (Repeat caller item) (λ u d o n e. cc) i to h))
@@ -303,7 +296,6 @@ module _ (plan : Network) (w : World) (safe : IsSafe plan w) where
         | inl done ↦ inl (done, g)
         | inr e ↦ inr (subst (λ t. HadArrival w t name i) (sym (ap (λ (p : Text × Text). p.1) e.0)) (honest e.1 i (ap (λ (p : Text × Text). p.0) e.0) g))
       ])
-      (pends_by w name book plan safe grows book_right (λ i h. h))
       (fair_push b.lines line fair)
       (fold_after line b book (safe.folds name) is_after)
       (λ to i h. elim (succeeded_from b.lines line i to h) [
@@ -321,32 +313,33 @@ module _ (plan : Network) (w : World) (safe : IsSafe plan w) where
   requeuing_silent uid dest c i (inr r) = (let e : Requeuing uid dest ≡ Repeat c i = r in cc e)
 
   -- ---- settle
-  pub settlement_kept : (name uid dest : Text) (outcome : Outcome) (reply : Answer) (new : World) → IsFairOutcome outcome →
-      (outcome ≡ Status 0 → (item : Instance) → item.uid ≡ uid → Has w name item → HadArrival w dest name item) →
-      Settlement w name uid dest outcome reply new → Kept plan w new
-  settlement_kept name uid dest outcome (Ok done) new fair honest s =
+  pub settlement_kept : (name uid : Text) (since : ℕ) (dest : Text) (outcome : Outcome) (reply : Answer) (new : World) → IsFairOutcome outcome →
+      (outcome ≡ Status 0 → IsThereSince (w.books name).lines uid since → (item : Instance) → item.uid ≡ uid → Has w name item → HadArrival w dest name item) →
+      Settlement w name uid since dest outcome reply new → Kept plan w new
+  settlement_kept name uid since dest outcome (Ok done) new fair honest s =
       let old = w.books name in
-      let waits = s.call.0 in
+      let waits = s.call.0.0 in
+      let there = s.call.0.1 in
       let row = row_after waits.0 outcome w.time in
       let line = Settling uid dest outcome w.time in
       let is_book : s.book ≡ row_put old (uid, dest) row line = s.call.1 ∙ settled_is uid dest outcome w.time waits.0 waits.1 old waits.2 in
       kept_row name uid dest (Waiting waits.0 waits.1) row line new waits.2 (settled_not_dropped waits.0 outcome w.time) fair (λ e. cc) (λ since. refl) (settling_silent uid dest outcome w.time)
-      (λ is. honest (done_only outcome fair waits.0 w.time is))
+      (λ is. honest (done_only outcome fair waits.0 w.time is) there)
       (sym (settled_is uid dest outcome w.time waits.0 waits.1 old waits.2))
       (λ item to noted.
       let parts = settling_is uid dest outcome w.time item.uid to (Status noted.status) noted.now noted.is in
       let zero : noted.status ≡ 0 = fair_success noted.status (subst IsFairOutcome parts.2 fair) noted.success in
       let P : Book → Type 0 = λ b. map.get b.items item.uid ≡ Some item in
       let has : Has w name item = subst P (sym (safe.folds name)) noted.had in
-      subst (λ t. HadArrival w t name item) parts.1 (honest (parts.2 ∙ ap Status zero) item (sym parts.0) has))
+      subst (λ t. HadArrival w t name item) parts.1 (honest (parts.2 ∙ ap Status zero) there item (sym parts.0) has))
       s.called.armed (s.called.is ∙ ap (λ x. with_armed (with_book w name x) s.called.armed) is_book)
-  settlement_kept name uid dest outcome (Err fault.NotWaiting) new fair honest s = kept_same name s.book new s.call.1 s.called.armed s.called.is
-  settlement_kept name uid dest outcome (Err fault.Store) new fair honest s = kept_same name s.book new s.call s.called.armed s.called.is
-  settlement_kept name uid dest outcome (Err fault.Memory) new fair honest s = kept_same name s.book new s.call s.called.armed s.called.is
-  settlement_kept name uid dest outcome (Err fault.NoLine) new fair honest s = absurd s.call
-  settlement_kept name uid dest outcome (Err fault.Conflict) new fair honest s = absurd s.call
-  settlement_kept name uid dest outcome (Err fault.NotHeld) new fair honest s = absurd s.call
-  settlement_kept name uid dest outcome (Err fault.NotOver) new fair honest s = absurd s.call
+  settlement_kept name uid since dest outcome (Err fault.NotWaiting) new fair honest s = kept_same name s.book new s.call.1 s.called.armed s.called.is
+  settlement_kept name uid since dest outcome (Err fault.Store) new fair honest s = kept_same name s.book new s.call s.called.armed s.called.is
+  settlement_kept name uid since dest outcome (Err fault.Memory) new fair honest s = kept_same name s.book new s.call s.called.armed s.called.is
+  settlement_kept name uid since dest outcome (Err fault.NoLine) new fair honest s = absurd s.call
+  settlement_kept name uid since dest outcome (Err fault.Conflict) new fair honest s = absurd s.call
+  settlement_kept name uid since dest outcome (Err fault.NotHeld) new fair honest s = absurd s.call
+  settlement_kept name uid since dest outcome (Err fault.NotOver) new fair honest s = absurd s.call
 
   -- ---- requeue
   pub requeue_kept : (name uid dest : Text) (answer : Answer) (new : World) → Requeueing w name uid dest answer new → Kept plan w new
@@ -387,7 +380,6 @@ module _ (plan : Network) (w : World) (safe : IsSafe plan w) where
       ])
       (λ i to g. inr (inr (given_up_on plan name b.lines line i to (λ e. cc) (given_silent plan name uid dest w.time stood b right) g)))
       (λ to i h g. inl (given_done plan name uid dest w.time stood b right (i.uid, to) h, g))
-      (pends_by w name book plan safe grows book_right (λ i h. h))
       (fair_push b.lines line tt)
       (fold_after line b book (safe.folds name) (sym (dropped_is uid dest w.time held.0 b held.1)))
       (λ to i h. inl (succeeded_before b.lines line (λ u e o n s. cc) i to h))
@@ -405,22 +397,8 @@ module _ (plan : Network) (w : World) (safe : IsSafe plan w) where
   forgetting_silent uid c i (inl a) = (let e : Forgetting uid ≡ Arrival c i a.0 a.1 = a.2 in cc e)
   forgetting_silent uid c i (inr r) = (let e : Forgetting uid ≡ Repeat c i = r in cc e)
 
-  -- what is pending on a link is of another uid, and stays
-  pends_forgotten : (name uid : Text) → NoneIsPending w name uid → KeepsPending w (with_book w name (after (Forgetting uid) (w.books name)))
-  pends_forgotten name uid none number link item at c p had = elim (same_or_not texts link.caller name) [
-    | inr f ↦ (let P : Book → Type 0 = λ x. map.get x.items item.uid ≡ Some item in subst P (sym (book_there w.books name (after (Forgetting uid) (w.books name)) link.caller f)) had)
-    | inl e ↦ (
-        let book = after (Forgetting uid) (w.books name) in
-        let P : Book → Type 0 = λ x. map.get x.items item.uid ≡ Some item in
-        let Q : Text → Type 0 = λ n. map.get (w.books n).items item.uid ≡ Some item in
-        let R : Text → Type 0 = λ n. Has (with_book w name book) n item in
-        let apart : Apart item.uid uid = elim (same_or_not texts item.uid uid) [ inl same ↦ absurd (none number link item at e c p same) | inr other ↦ other ] in
-        subst R (sym e) (subst P (sym (book_here w.books name book)) (item_stays (w.books name) uid item.uid item apart (subst Q e had)))
-        )
-  ]
-
-  pub forgetting_kept : (name uid : Text) (answer : Answer) (new : World) → NoneIsPending w name uid → LettingGo w name uid answer new → Kept plan w new
-  forgetting_kept name uid (Ok done) new none d =
+  pub forgetting_kept : (name uid : Text) (answer : Answer) (new : World) → LettingGo w name uid answer new → Kept plan w new
+  forgetting_kept name uid (Ok done) new d =
       let b = w.books name in
       let stood = w.stood name in
       let right = safe.books name in
@@ -431,15 +409,14 @@ module _ (plan : Network) (w : World) (safe : IsSafe plan w) where
       (λ i to g. inl (forgotten_goes_on plan name uid stood b right over i to g))
       (λ i to g. inr (inr (given_up_on plan name b.lines (Forgetting uid) i to (λ e. cc) (forgetting_silent uid) g)))
       (λ to i h g. inl ((row_left b uid (i.uid, to) Done h).1, (item_left b uid i.uid i g).1))
-      (pends_forgotten name uid none)
       (fair_push b.lines (Forgetting uid) tt)
       (fold_after (Forgetting uid) b book (safe.folds name) refl)
       (λ to i h. inl (succeeded_before b.lines (Forgetting uid) (λ u d o n e. cc) i to h))
       d.called.armed (d.called.is ∙ ap (λ x. with_armed (with_book w name x) d.called.armed) d.call.1)
-  forgetting_kept name uid (Err fault.NotOver) new none d = kept_same name d.book new d.call.1 d.called.armed d.called.is
-  forgetting_kept name uid (Err fault.Store) new none d = kept_same name d.book new d.call d.called.armed d.called.is
-  forgetting_kept name uid (Err fault.Memory) new none d = kept_same name d.book new d.call d.called.armed d.called.is
-  forgetting_kept name uid (Err fault.NoLine) new none d = absurd d.call
-  forgetting_kept name uid (Err fault.Conflict) new none d = absurd d.call
-  forgetting_kept name uid (Err fault.NotWaiting) new none d = absurd d.call
-  forgetting_kept name uid (Err fault.NotHeld) new none d = absurd d.call
+  forgetting_kept name uid (Err fault.NotOver) new d = kept_same name d.book new d.call.1 d.called.armed d.called.is
+  forgetting_kept name uid (Err fault.Store) new d = kept_same name d.book new d.call d.called.armed d.called.is
+  forgetting_kept name uid (Err fault.Memory) new d = kept_same name d.book new d.call d.called.armed d.called.is
+  forgetting_kept name uid (Err fault.NoLine) new d = absurd d.call
+  forgetting_kept name uid (Err fault.Conflict) new d = absurd d.call
+  forgetting_kept name uid (Err fault.NotWaiting) new d = absurd d.call
+  forgetting_kept name uid (Err fault.NotHeld) new d = absurd d.call

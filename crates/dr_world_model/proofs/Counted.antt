@@ -17,15 +17,15 @@ accepted_so Asking h = absurd (let e : ⊥ = cc in e)
 accepted_so (Answering accepted) h = answering accepted
 accepted_so Rejecting h = absurd (let e : ⊥ = cc in e)
 accepted_so (Open accepted) h = opened accepted
-accepted_so (Storing accepted item) h = storing accepted item
-accepted_so (Replying accepted item status) h = replying accepted item status
+accepted_so (Storing accepted item since) h = storing accepted item since
+accepted_so (Replying accepted item since status) h = replying accepted item since status
 accepted_so Gone h = absurd (let e : ⊥ = cc in e)
 
 so_accepted : (stage : Stage) → IsAccepted stage → is_accepted stage ≡ true
 so_accepted stage (answering accepted) = refl
 so_accepted stage (opened accepted) = refl
-so_accepted stage (storing accepted item) = refl
-so_accepted stage (replying accepted item status) = refl
+so_accepted stage (storing accepted item since) = refl
+so_accepted stage (replying accepted item since status) = refl
 
 -- what a kept key had
 kept_so : (b : Bool) (o : Option Link) → is_some (cond b o None) ≡ true → (b ≡ true) × (is_some o ≡ true)

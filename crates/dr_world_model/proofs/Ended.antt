@@ -13,7 +13,7 @@ use Rattle.dr_ledger.proofs.Maps.{texts, text_pairs, get_new, ties_itself}
 use Rattle.dr_ledger.proofs.Growing.{settled_is}
 use Rattle.dr_world_model.specs.Worlds.{World, Link, Stage, same_text, with_link, without_caller}
 use Rattle.dr_world_model.specs.Calls.{Settlement}
-use Rattle.dr_world_model.specs.Steps.{IsLink, pending, SettlesPending, is_of, links_without}
+use Rattle.dr_world_model.specs.Steps.{IsLink, handed_out, pending, SettlesPending, is_of, links_without}
 use Rattle.dr_world_model.specs.Endings.{IsUnderWay, LeavingTriesAgain, LeavingSettles, LeftIsOff, DroppedIsOff, RefusedCallersLeave, SettledBeforeStays, ClosedIsGone, RestartedHasNoLink}
 use Rattle.dr_world_model.proofs.Lookups.{numbers}
 use Rattle.dr_world_model.proofs.Safety.{book_here, each_book}
@@ -21,16 +21,16 @@ use Rattle.dr_world_model.proofs.CallsKept.{broken_retried}
 use Rattle.dr_world_model.proofs.OneReply.{same_link}
 
 is_pending : (stage : Stage) (item : Instance) → IsUnderWay stage item → pending stage ≡ Some item
-is_pending stage item (inl u) = ap pending u.1
-is_pending stage item (inr u) = ap pending u.2
+is_pending stage item (inl u) = ap pending u.2
+is_pending stage item (inr u) = ap pending u.3
 
 pub leaving_tries_again : LeavingTriesAgain
 leaving_tries_again w v number link item at under s =
     let e = same_link w number s.link link s.at at in
     let P : Link → Type 0 = λ l. SettlesPending w l (pending l.stage) (Some (Ok tt)) s.mid in
     let Q : Option Instance → Type 0 = λ o. SettlesPending w link o (Some (Ok tt)) s.mid in
-    let t : Settlement w link.caller item.uid link.receiver Broken (Ok tt) s.mid = subst Q (is_pending link.stage item under) (subst P e s.broken) in
-    let waits = t.call.0 in
+    let t : Settlement w link.caller item.uid (handed_out link.stage) link.receiver Broken (Ok tt) s.mid = subst Q (is_pending link.stage item under) (subst P e s.broken) in
+    let waits = t.call.0.0 in
     let rows = λ (b : Book). map.get b.rows (item.uid, link.receiver) in
     let books : v.books link.caller ≡ t.book = ap (λ (u : World). u.books link.caller) (s.is ∙ ap (λ m. with_link m number (without_caller s.link)) t.called.is) ∙ book_here w.books link.caller t.book in (
       waits.0,

@@ -297,8 +297,8 @@ module _ (plan : Network) (caller name to : Text) (item other : Instance) where
 
   no_success : IsHonest plan (success_for_nothing caller name item) → ⊥
   no_success h =
-      let link = link_at caller name (Replying set.empty item 0) in
-      nothing_taken caller item (h.replies 1 link set.empty item (get_new numbers start.links 1 link) refl)
+      let link = link_at caller name (Replying set.empty item 0 0) in
+      nothing_taken caller item (h.replies 1 link set.empty item 0 (get_new numbers start.links 1 link) refl)
 
   -- the one row of an arrival is over, and no line says why
   over_unsaid : (row : Progress) → is_queued row ≡ false → NothingLost plan (only name (brought_by caller item (map.insert map.empty (item.uid, to) row) set.empty)) → ⊥

@@ -33,14 +33,14 @@ use Rattle.dr_world_model.proofs.AdoptionsKept.{adoption_kept, empty_right, no_r
 not_both : (b : Bool) → b ≡ true → b ≡ false → ⊥
 not_both b t f = cc
 
-covers_open : (plan : Network) (w : World) (caller receiver : Text) (connected : Bool) (stage : Stage) (accepted : Contexts) → IsFairStage plan w caller receiver connected stage → IsOpen stage accepted → CoversHop plan caller receiver accepted
-covers_open plan w caller receiver connected Asking accepted fair opened = absurd opened
-covers_open plan w caller receiver connected (Answering pairs) accepted fair opened = absurd opened
-covers_open plan w caller receiver connected Rejecting accepted fair opened = absurd opened
-covers_open plan w caller receiver connected Gone accepted fair opened = absurd opened
-covers_open plan w caller receiver connected (Open pairs) accepted fair opened = subst (CoversHop plan caller receiver) opened fair
-covers_open plan w caller receiver connected (Storing pairs item) accepted fair opened = subst (CoversHop plan caller receiver) opened fair.0
-covers_open plan w caller receiver connected (Replying pairs item status) accepted fair opened = subst (CoversHop plan caller receiver) opened fair.0
+covers_open : (plan : Network) (w : World) (caller receiver : Text) (stage : Stage) (accepted : Contexts) → IsFairStage plan w caller receiver stage → IsOpen stage accepted → CoversHop plan caller receiver accepted
+covers_open plan w caller receiver Asking accepted fair opened = absurd opened
+covers_open plan w caller receiver (Answering pairs) accepted fair opened = absurd opened
+covers_open plan w caller receiver Rejecting accepted fair opened = absurd opened
+covers_open plan w caller receiver Gone accepted fair opened = absurd opened
+covers_open plan w caller receiver (Open pairs) accepted fair opened = subst (CoversHop plan caller receiver) opened fair
+covers_open plan w caller receiver (Storing pairs item since) accepted fair opened = subst (CoversHop plan caller receiver) opened fair.0
+covers_open plan w caller receiver (Replying pairs item since status) accepted fair opened = subst (CoversHop plan caller receiver) opened fair.0
 
 no_length : (x : Text) → length (x ∷ []) ≤ 0 → ⊥
 no_length x h = omega arith
@@ -121,14 +121,14 @@ safe_headline plan w sound safe = record {
   };
   none_refused = record {
     lines = safe.lines;
-    agreed = λ number link accepted h opened. covers_open plan w link.caller link.receiver link.caller_connected link.stage accepted (safe.links number link h) opened;
+    agreed = λ number link accepted h opened. covers_open plan w link.caller link.receiver link.stage accepted (safe.links number link h) opened;
   };
   within_rank = λ caller name item a.
       let source = safe.sources name caller item a in
       let ranked = sound_has_rank plan sound item.key source.first source.site (origin_reached plan w safe source.first source.site item source.origin) in
       (source, (ranked.0, ranked.1, ranked.1.greatest source.over source.walk));
   honest = record {
-    replies = λ number link accepted item h stage. (subst (IsFairStage plan w link.caller link.receiver link.caller_connected) stage (safe.links number link h)).4 refl;
+    replies = λ number link accepted item since h stage. (subst (IsFairStage plan w link.caller link.receiver) stage (safe.links number link h)).4 refl;
     done = λ name to item row has. safe.done name to item row has;
     answered = safe.answered;
     rows = λ name uid to row h. let f = (safe.books name).from uid to row h in (f.item, f.named, f.has, f.why);

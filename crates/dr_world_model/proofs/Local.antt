@@ -196,8 +196,8 @@ events_are_local plan w v (Restart node answers) s =
     )
 events_are_local plan w v (Requeue node uid dest answer) s = called_local _ w v node _ s.1.book (λ n. n ≡ node) (λ m. ⊥) s.1.called refl
 events_are_local plan w v (Drop node uid dest answer) s = called_local _ w v node _ s.1.book (λ n. n ≡ node) (λ m. ⊥) s.1.called refl
-events_are_local plan w v (StayAway node uid dest answer) s = called_local _ w v node _ s.1.book (λ n. n ≡ node) (λ m. ⊥) s.1.called refl
-events_are_local plan w v (Forget node uid answer) s = called_local _ w v node _ s.2.book (λ n. n ≡ node) (λ m. ⊥) s.2.called refl
+events_are_local plan w v (StayAway node uid dest answer) s = called_local _ w v node _ s.1.1.book (λ n. n ≡ node) (λ m. ⊥) s.1.1.called refl
+events_are_local plan w v (Forget node uid answer) s = called_local _ w v node _ s.1.book (λ n. n ≡ node) (λ m. ⊥) s.1.called refl
 events_are_local plan w v (Refuse node) s = same_parts w v (λ n. ⊥) (λ m. ⊥) (ap (λ (u : World). u.books) s.1) (ap (λ (u : World). u.links) s.1)
   where
     same_parts : (w v : World) (W : Text → Type 0) (T : ℕ → Type 0) → v.books ≡ w.books → v.links ≡ w.links → Local w v W T

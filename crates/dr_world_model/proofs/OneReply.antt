@@ -18,7 +18,7 @@ use Rattle.dr_ledger.specs.declared.item.Instance.{Instance}
 use Rattle.dr_ledger.specs.declared.item.Outcome.{Outcome}
 use Rattle.dr_ledger.specs.Books.{Book}
 use Rattle.dr_ledger.specs.PlanRoutes.{plan_routing}
-use Rattle.dr_ledger.specs.Replies.{Arrives, Settles, Requeues, Drops, Forgets, IsNext, Reply}
+use Rattle.dr_ledger.specs.Replies.{Arrives, SettlesSince, Requeues, Drops, Forgets, IsNext, Reply}
 use Rattle.dr_ledger.proofs.Growing.{inside as some_inside}
 use Rattle.dr_ledger.proofs.Ones.{next_is_one}
 use Rattle.dr_world_model.specs.Worlds.{World, Link, Contexts, with_armed, with_book, with_link}
@@ -60,16 +60,17 @@ arrives_same plan name caller item old a b (Err fault.NotWaiting) p q = absurd p
 arrives_same plan name caller item old a b (Err fault.NotHeld) p q = absurd p
 arrives_same plan name caller item old a b (Err fault.NotOver) p q = absurd p
 
-settles_same : (uid dest : Text) (outcome : Outcome) (now : ℕ) (old a b : Book) (answer : Answer) →
-    Settles uid dest outcome now old answer a → Settles uid dest outcome now old answer b → a ≡ b
-settles_same uid dest outcome now old a b (Ok done) p q = p.1 ∙ sym q.1
-settles_same uid dest outcome now old a b (Err fault.NotWaiting) p q = p.1 ∙ sym q.1
-settles_same uid dest outcome now old a b (Err fault.Store) p q = p ∙ sym q
-settles_same uid dest outcome now old a b (Err fault.Memory) p q = p ∙ sym q
-settles_same uid dest outcome now old a b (Err fault.NoLine) p q = absurd p
-settles_same uid dest outcome now old a b (Err fault.Conflict) p q = absurd p
-settles_same uid dest outcome now old a b (Err fault.NotHeld) p q = absurd p
-settles_same uid dest outcome now old a b (Err fault.NotOver) p q = absurd p
+-- whatever the numbers were with which the row was handed out
+settles_same : (uid : Text) (since until : ℕ) (dest : Text) (outcome : Outcome) (now : ℕ) (old a b : Book) (answer : Answer) →
+    SettlesSince uid since dest outcome now old answer a → SettlesSince uid until dest outcome now old answer b → a ≡ b
+settles_same uid since until dest outcome now old a b (Ok done) p q = p.1 ∙ sym q.1
+settles_same uid since until dest outcome now old a b (Err fault.NotWaiting) p q = p.1 ∙ sym q.1
+settles_same uid since until dest outcome now old a b (Err fault.Store) p q = p ∙ sym q
+settles_same uid since until dest outcome now old a b (Err fault.Memory) p q = p ∙ sym q
+settles_same uid since until dest outcome now old a b (Err fault.NoLine) p q = absurd p
+settles_same uid since until dest outcome now old a b (Err fault.Conflict) p q = absurd p
+settles_same uid since until dest outcome now old a b (Err fault.NotHeld) p q = absurd p
+settles_same uid since until dest outcome now old a b (Err fault.NotOver) p q = absurd p
 
 requeues_same : (uid dest : Text) (old a b : Book) (answer : Answer) → Requeues uid dest old answer a → Requeues uid dest old answer b → a ≡ b
 requeues_same uid dest old a b (Ok done) p q = p.1 ∙ sym q.1
@@ -126,9 +127,9 @@ module _ (w : World) (armed : FinSet text_cmp) (a b : World) where
   arriving_alike plan name caller item reply p q =
       called_alike _ _ name _ p.book q.book (arrives_same plan name caller item (w.books name) p.book q.book reply p.call q.call) p.called q.called
 
-  pub settlement_alike : (name uid dest : Text) (outcome : Outcome) (answer : Answer) → Settlement (with_armed w armed) name uid dest outcome answer a → Settlement w name uid dest outcome answer b → Alike a b
-  settlement_alike name uid dest outcome answer p q =
-      called_alike _ _ name _ p.book q.book (settles_same uid dest outcome w.time (w.books name) p.book q.book answer p.call q.call) p.called q.called
+  pub settlement_alike : (name uid : Text) (since until : ℕ) (dest : Text) (outcome : Outcome) (answer : Answer) → Settlement (with_armed w armed) name uid since dest outcome answer a → Settlement w name uid until dest outcome answer b → Alike a b
+  settlement_alike name uid since until dest outcome answer p q =
+      called_alike _ _ name _ p.book q.book (settles_same uid since until dest outcome w.time (w.books name) p.book q.book answer p.call q.call) p.called q.called
 
   pub requeueing_alike : (name uid dest : Text) (answer : Answer) → Requeueing (with_armed w armed) name uid dest answer a → Requeueing w name uid dest answer b → Alike a b
   requeueing_alike name uid dest answer p q = called_alike _ _ name _ p.book q.book (requeues_same uid dest (w.books name) p.book q.book answer p.call q.call) p.called q.called

@@ -11,7 +11,7 @@ use Rattle.dr_ledger.specs.declared.item.Outcome.TheVariants.{Status, Broken, No
 use Rattle.dr_ledger.specs.Replies.{IsNext, store_status, Reply}
 use Rattle.dr_world_model.specs.Worlds.{World, Link, Contexts, Answering, Rejecting, Open, Storing, Replying, Gone, with_armed, with_link, with_links, without_caller, without_receiver, at_stage}
 use Rattle.dr_world_model.specs.Calls.{Answer, Arriving, Settlement}
-use Rattle.dr_world_model.specs.Steps.{IsLink, AnswersRequest, SettlesFirst, OpensLink, ReadsAnswer, after_settling, GivesItem, Gives, Receives, ReadsReply, pending, SettlesPending, Leaves, LeavesIfOn, LeaveAll, Closes, Restarts, callers_of, links_without, PassesOver}
+use Rattle.dr_world_model.specs.Steps.{IsLink, AnswersRequest, SettlesFirst, OpensLink, ReadsAnswer, after_settling, GivesItem, Gives, Receives, ReadsReply, handed_out, line_count, pending, SettlesPending, Leaves, LeavesIfOn, LeaveAll, Closes, Restarts, callers_of, links_without, PassesOver}
 use Rattle.dr_world_model.specs.Events.{Event, Take, Ask, AgreeReceiver, AgreeCaller, Give, PassOver, Receive, Answered, BreakCaller, BreakReceiver, Close, Restart, Requeue, Drop, Forget, Refuse, StayAway, Tick, Step}
 use Rattle.dr_world_model.specs.Laws.{StepIsAFunction, AdoptionIsAFunction}
 use Rattle.dr_world_model.proofs.AdoptionsKept.{node_or_not}
@@ -24,11 +24,11 @@ answering_inside a b e = cc
 open_inside : (a b : Contexts) → Open a ≡ Open b → a ≡ b
 open_inside a b e = cc
 
-storing_inside : (a b : Contexts) (x y : Instance) → Storing a x ≡ Storing b y → (a ≡ b) × (x ≡ y)
-storing_inside a b x y e = (cc, cc)
+storing_inside : (a b : Contexts) (x y : Instance) (m n : ℕ) → Storing a x m ≡ Storing b y n → (a ≡ b) × (x ≡ y) × (m ≡ n)
+storing_inside a b x y m n e = (cc, cc, cc)
 
-replying_inside : (a b : Contexts) (x y : Instance) (s t : ℕ) → Replying a x s ≡ Replying b y t → (a ≡ b) × (x ≡ y) × (s ≡ t)
-replying_inside a b x y s t e = (cc, cc, cc)
+replying_inside : (a b : Contexts) (x y : Instance) (m n s t : ℕ) → Replying a x m s ≡ Replying b y n t → (a ≡ b) × (x ≡ y) × (s ≡ t)
+replying_inside a b x y m n s t e = (cc, cc, cc)
 
 no_rejection : (a : Contexts) → Answering a ≡ Rejecting → ⊥
 no_rejection a e = cc
@@ -45,12 +45,12 @@ module _ (w : World) where
   first_alike a b link None p q = same_alike a b (p.1 ∙ sym q.1)
   first_alike a b link (Some answer) p q =
       let e = next_same (w.books link.caller) link.receiver w.time p.0 q.0 p.1 q.1 in
-      let P : Instance → Type 0 = λ item. Settlement w link.caller item.uid link.receiver Broken answer a in
-      settlement_alike w w.armed a b link.caller q.0.uid link.receiver Broken answer (subst P e p.2) q.2
+      let P : Instance → Type 0 = λ item. Settlement w link.caller item.uid (line_count w link.caller) link.receiver Broken answer a in
+      settlement_alike w w.armed a b link.caller q.0.uid (line_count w link.caller) (line_count w link.caller) link.receiver Broken answer (subst P e p.2) q.2
 
   pending_alike : (armed : FinSet text_cmp) (a b : World) (link : Link) (item : Option Instance) (answer : Option Answer) →
       SettlesPending (with_armed w armed) link item answer a → SettlesPending w link item answer b → Alike a b
-  pending_alike armed a b link (Some item) (Some answer) p q = settlement_alike w armed a b link.caller item.uid link.receiver Broken answer p q
+  pending_alike armed a b link (Some item) (Some answer) p q = settlement_alike w armed a b link.caller item.uid (handed_out link.stage) (handed_out link.stage) link.receiver Broken answer p q
   pending_alike armed a b link None None p q = (armed, p ∙ ap (λ v. with_armed v armed) (sym q))
   pending_alike armed a b link (Some item) None p q = absurd p
   pending_alike armed a b link None (Some answer) p q = absurd p
@@ -99,7 +99,7 @@ module _ (w : World) where
   gives_item_alike a b number link accepted item None p q = same_alike a b (p.1 ∙ sym q.1)
   gives_item_alike a b number link accepted item (Some answer) p q =
       subst (λ v. Alike v b) (sym p.1.2) (subst (λ v. Alike (with_link p.1.0 number (after_settling link answer accepted)) v) (sym q.1.2)
-      (link_alike p.1.0 q.1.0 number (after_settling link answer accepted) (settlement_alike w w.armed p.1.0 q.1.0 link.caller item.uid link.receiver NoContext answer p.1.1 q.1.1)))
+      (link_alike p.1.0 q.1.0 number (after_settling link answer accepted) (settlement_alike w w.armed p.1.0 q.1.0 link.caller item.uid (line_count w link.caller) (line_count w link.caller) link.receiver NoContext answer p.1.1 q.1.1)))
 
   gives_alike : (a b : World) (number : ℕ) (answer : Option Answer) → Gives w number answer a → Gives w number answer b → Alike a b
   gives_alike a b number answer p q =
@@ -113,29 +113,29 @@ module _ (w : World) where
   receives_alike : (plan : Network) (a b : World) (number : ℕ) (reply : Reply) → Receives plan w number reply a → Receives plan w number reply b → Alike a b
   receives_alike plan a b number reply p q =
       let e = same_link w number p.link q.link p.at q.at in
-      let f = storing_inside p.accepted q.accepted p.item q.item (sym p.stage ∙ (ap (λ (link : Link). link.stage) e ∙ q.stage)) in
+      let f = storing_inside p.accepted q.accepted p.item q.item p.since q.since (sym p.stage ∙ (ap (λ (link : Link). link.stage) e ∙ q.stage)) in
       let P : Link × Instance → Type 0 = λ t. Arriving plan w t.0.receiver t.0.caller t.1 reply p.mid in
       let mids = arriving_alike w w.armed p.mid q.mid plan q.link.receiver q.link.caller q.item reply (subst P (λ j. (e j, f.1 j)) p.call) q.call in
-      let L : Link × Contexts × Instance → Link = λ t. at_stage t.0 (Replying t.1 t.2 (store_status reply)) in
-      subst (λ v. Alike v b) (sym (p.is ∙ ap (λ t. with_link p.mid number (L t)) (λ j. (e j, f.0 j, f.1 j))))
-      (subst (λ v. Alike (with_link p.mid number (L (q.link, q.accepted, q.item))) v) (sym q.is) (link_alike p.mid q.mid number (L (q.link, q.accepted, q.item)) mids))
+      let L : Link × Contexts × Instance × ℕ → Link = λ t. at_stage t.0 (Replying t.1 t.2 t.3 (store_status reply)) in
+      subst (λ v. Alike v b) (sym (p.is ∙ ap (λ t. with_link p.mid number (L t)) (λ j. (e j, f.0 j, f.1 j, f.2 j))))
+      (subst (λ v. Alike (with_link p.mid number (L (q.link, q.accepted, q.item, q.since))) v) (sym q.is) (link_alike p.mid q.mid number (L (q.link, q.accepted, q.item, q.since)) mids))
 
   passes_alike : (a b : World) (number : ℕ) (answer : Answer) → PassesOver w number answer a → PassesOver w number answer b → Alike a b
   passes_alike a b number answer p q =
       let e = same_link w number p.link q.link p.at q.at in
       let N : Link → Type 0 = λ link. IsNext (w.books link.caller) link.receiver w.time p.item in
       let g = next_same (w.books q.link.caller) q.link.receiver w.time p.item q.item (subst N e p.first) q.first in
-      let P : Link × Instance → Type 0 = λ t. Settlement w t.0.caller t.1.uid t.0.receiver Unreadable answer p.mid in
-      let mids = settlement_alike w w.armed p.mid q.mid q.link.caller q.item.uid q.link.receiver Unreadable answer (subst P (λ j. (e j, g j)) p.call) q.call in
+      let P : Link × Instance → Type 0 = λ t. Settlement w t.0.caller t.1.uid (line_count w t.0.caller) t.0.receiver Unreadable answer p.mid in
+      let mids = settlement_alike w w.armed p.mid q.mid q.link.caller q.item.uid (line_count w q.link.caller) (line_count w q.link.caller) q.link.receiver Unreadable answer (subst P (λ j. (e j, g j)) p.call) q.call in
       subst (λ v. Alike v b) (sym (p.is ∙ ap (λ link. with_link p.mid number (without_caller link)) e))
       (subst (λ v. Alike (with_link p.mid number (without_caller q.link)) v) (sym q.is) (link_alike p.mid q.mid number (without_caller q.link) mids))
 
   replied_alike : (a b : World) (number : ℕ) (answer : Answer) → ReadsReply w number answer a → ReadsReply w number answer b → Alike a b
   replied_alike a b number answer p q =
       let e = same_link w number p.link q.link p.at q.at in
-      let f = replying_inside p.accepted q.accepted p.item q.item p.status q.status (sym p.stage ∙ (ap (λ (link : Link). link.stage) e ∙ q.stage)) in
-      let P : Link × Instance × ℕ → Type 0 = λ t. Settlement w t.0.caller t.1.uid t.0.receiver (Status t.2) answer p.mid in
-      let mids = settlement_alike w w.armed p.mid q.mid q.link.caller q.item.uid q.link.receiver (Status q.status) answer (subst P (λ j. (e j, f.1 j, f.2 j)) p.call) q.call in
+      let f = replying_inside p.accepted q.accepted p.item q.item p.since q.since p.status q.status (sym p.stage ∙ (ap (λ (link : Link). link.stage) e ∙ q.stage)) in
+      let P : Link × Instance × ℕ → Type 0 = λ t. Settlement w t.0.caller t.1.uid p.since t.0.receiver (Status t.2) answer p.mid in
+      let mids = settlement_alike w w.armed p.mid q.mid q.link.caller q.item.uid p.since q.since q.link.receiver (Status q.status) answer (subst P (λ j. (e j, f.1 j, f.2 j)) p.call) q.call in
       let L : Link × Contexts → Link = λ t. after_settling t.0 answer t.1 in
       subst (λ v. Alike v b) (sym (p.is ∙ ap (λ t. with_link p.mid number (L t)) (λ j. (e j, f.0 j))))
       (subst (λ v. Alike (with_link p.mid number (L (q.link, q.accepted))) v) (sym q.is) (link_alike p.mid q.mid number (L (q.link, q.accepted)) mids))
@@ -195,8 +195,8 @@ step_alike plan w (Close number answer) a b p q = closes_alike w a b number answ
 step_alike plan w (Restart node answers) a b p q = restarts_alike w a b node answers p q
 step_alike plan w (Requeue node uid dest answer) a b p q = requeueing_alike w w.armed a b node uid dest answer p.1 q.1
 step_alike plan w (Drop node uid dest answer) a b p q = giving_up_alike w w.armed a b node uid dest answer p.1 q.1
-step_alike plan w (StayAway node uid dest answer) a b p q = settlement_alike w w.armed a b node uid dest Broken answer p.1 q.1
-step_alike plan w (Forget node uid answer) a b p q = letting_go_alike w w.armed a b node uid answer p.2 q.2
+step_alike plan w (StayAway node uid dest answer) a b p q = settlement_alike w w.armed a b node uid p.1.0 q.1.0 dest Broken answer p.1.1 q.1.1
+step_alike plan w (Forget node uid answer) a b p q = letting_go_alike w w.armed a b node uid answer p.1 q.1
 step_alike plan w (Refuse node) a b p q = same_alike a b (p.1 ∙ sym q.1)
 step_alike plan w (Tick ms) a b p q = same_alike a b (p ∙ sym q)
 

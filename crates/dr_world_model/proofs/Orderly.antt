@@ -12,6 +12,7 @@ use Rattle.dr_plan_model.specs.Networks.{Network}
 use Rattle.dr_ledger.specs.Books.{Book, Line, Adoption, empty_book, after, Fold}
 use Rattle.dr_ledger.specs.Histories.{IsSince}
 use Rattle.dr_ledger.specs.PlanRoutes.{plan_routing}
+use Rattle.dr_ledger.proofs.HandedOut.{some_settling}
 use Rattle.dr_ledger.proofs.Folding.{folded_push, empty_is_journalled, arrivals_are_journalled, settlings_are_journalled, requeuings_are_journalled, droppings_are_journalled, forgettings_are_journalled, adoptions_are_journalled}
 use Rattle.dr_world_model.specs.Worlds.{World, Link, start, with_book}
 use Rattle.dr_world_model.specs.Calls.{StoreOutcome, Written, Untried, Failed, ArmedAfter, CalledAt}
@@ -56,7 +57,7 @@ Numbered w = (number : ℕ) (link : Link) → IsLink w number link → number �
 numbered_closed : (plan : Network) → Closed plan Numbered
 numbered_closed plan = record {
   arriving = λ w v name caller item reply a p. stays _ w v name _ a.book a.called Numbered (λ armed. p);
-  settling = λ w v name uid dest outcome answer s p. stays _ w v name _ s.book s.called Numbered (λ armed. p);
+  settling = λ w v name uid since dest outcome answer s p. stays _ w v name _ s.book s.called Numbered (λ armed. p);
   requeueing = λ w v name uid dest answer r p. stays _ w v name _ r.book r.called Numbered (λ armed. p);
   giving_up = λ w v name uid dest answer r p. stays _ w v name _ r.book r.called Numbered (λ armed. p);
   letting_go = λ w v name uid answer r p. stays _ w v name _ r.book r.called Numbered (λ armed. p);
@@ -91,7 +92,7 @@ AreHops plan w = (number : ℕ) (link : Link) → IsLink w number link → IsHop
 hops_closed : (plan : Network) → Closed plan (AreHops plan)
 hops_closed plan = record {
   arriving = λ w v name caller item reply a p. stays _ w v name _ a.book a.called (AreHops plan) (λ armed. p);
-  settling = λ w v name uid dest outcome answer s p. stays _ w v name _ s.book s.called (AreHops plan) (λ armed. p);
+  settling = λ w v name uid since dest outcome answer s p. stays _ w v name _ s.book s.called (AreHops plan) (λ armed. p);
   requeueing = λ w v name uid dest answer r p. stays _ w v name _ r.book r.called (AreHops plan) (λ armed. p);
   giving_up = λ w v name uid dest answer r p. stays _ w v name _ r.book r.called (AreHops plan) (λ armed. p);
   letting_go = λ w v name uid answer r p. stays _ w v name _ r.book r.called (AreHops plan) (λ armed. p);
@@ -132,7 +133,7 @@ waited_later moment time ms before bound = omega arith
 later_closed : (plan : Network) (count moment : ℕ) → Closed plan (IsLater count moment)
 later_closed plan count moment = record {
   arriving = λ w v name caller item reply a p. stays _ w v name _ a.book a.called (IsLater count moment) (λ armed. p);
-  settling = λ w v name uid dest outcome answer s p. stays _ w v name _ s.book s.called (IsLater count moment) (λ armed. p);
+  settling = λ w v name uid since dest outcome answer s p. stays _ w v name _ s.book s.called (IsLater count moment) (λ armed. p);
   requeueing = λ w v name uid dest answer r p. stays _ w v name _ r.book r.called (IsLater count moment) (λ armed. p);
   giving_up = λ w v name uid dest answer r p. stays _ w v name _ r.book r.called (IsLater count moment) (λ armed. p);
   letting_go = λ w v name uid answer r p. stays _ w v name _ r.book r.called (IsLater count moment) (λ armed. p);
@@ -167,7 +168,7 @@ called_armed plan Would w v name came book c p q h = p q (armed_from Would w.arm
 armed_closed : (plan : Network) → Closed plan (Armed plan)
 armed_closed plan = record {
   arriving = λ w v name caller item reply a p. called_armed plan _ w v name _ a.book a.called p;
-  settling = λ w v name uid dest outcome answer s p. called_armed plan _ w v name _ s.book s.called p;
+  settling = λ w v name uid since dest outcome answer s p. called_armed plan _ w v name _ s.book s.called p;
   requeueing = λ w v name uid dest answer r p. called_armed plan _ w v name _ r.book r.called p;
   giving_up = λ w v name uid dest answer r p. called_armed plan _ w v name _ r.book r.called p;
   letting_go = λ w v name uid answer r p. called_armed plan _ w v name _ r.book r.called p;
@@ -219,9 +220,10 @@ journalled_closed plan = record {
   arriving = λ w v name caller item reply a p.
       let was = p.1 name in
       called_journalled plan _ w v name _ a.book a.called (was.0, arrivals_are_journalled (plan_routing plan name) was.0 caller item (w.books name) a.book reply was.1 a.call, was.2) p;
-  settling = λ w v name uid dest outcome answer s p.
+  settling = λ w v name uid since dest outcome answer s p.
       let was = p.1 name in
-      called_journalled plan _ w v name _ s.book s.called (was.0, settlings_are_journalled (plan_routing plan name) was.0 uid dest outcome w.time (w.books name) s.book answer p.0 was.1 s.call, was.2) p;
+      let t = some_settling uid since dest outcome w.time (w.books name) s.book answer s.call in
+      called_journalled plan _ w v name _ s.book s.called (was.0, settlings_are_journalled (plan_routing plan name) was.0 uid dest outcome w.time (w.books name) s.book t.0 p.0 was.1 t.1, was.2) p;
   requeueing = λ w v name uid dest answer r p.
       let was = p.1 name in
       called_journalled plan _ w v name _ r.book r.called (was.0, requeuings_are_journalled (plan_routing plan name) was.0 uid dest (w.books name) r.book answer was.1 r.call, was.2) p;

@@ -12,7 +12,7 @@ use Rattle.dr_ledger.proofs.Growing.{settled_is}
 use Rattle.dr_ledger.proofs.Ones.{next_is_one}
 use Rattle.dr_world_model.specs.Worlds.{World, Link, with_link}
 use Rattle.dr_world_model.specs.Calls.{Answer, Settlement}
-use Rattle.dr_world_model.specs.Steps.{LeaveAll, SettlesFirst, callers_of, calls, others}
+use Rattle.dr_world_model.specs.Steps.{LeaveAll, SettlesFirst, callers_of, calls, line_count, others}
 use Rattle.dr_world_model.specs.Pinning.{AgreeingIsByCount, AnsweredIsOpen, ClosingSettles, ClosingTriesAgain, DropsLeaveTheCaller, ReceivedIsReplied, RejectedSettles, RejectedTriesAgain, RestartsAskAll, RestartsInOrder, TriesAgain}
 use Rattle.dr_world_model.proofs.CallsKept.{broken_retried}
 use Rattle.dr_world_model.proofs.Ended.{leaving_settles, leaving_tries_again, put_there}
@@ -33,15 +33,15 @@ agreeing_is_by_count plan w v number link None at s =
     )
 
 pub received_is_replied : ReceivedIsReplied
-received_is_replied plan w v number reply s = (_, s.accepted, s.item, put_there s.mid v number _ s.is, refl)
+received_is_replied plan w v number reply s = (_, s.accepted, s.item, s.since, put_there s.mid v number _ s.is, refl)
 
 pub answered_is_open : AnsweredIsOpen
 answered_is_open w v number s = (_, s.accepted, put_there s.mid v number _ s.is, refl, refl)
 
 -- ---- endings
-settled_broken : (w mid : World) (link : Link) (item : Instance) → Settlement w link.caller item.uid link.receiver Broken (Ok tt) mid → TriesAgain w mid link item
-settled_broken w mid link item t =
-    let waits = t.call.0 in
+settled_broken : (w mid : World) (link : Link) (item : Instance) (since : ℕ) → Settlement w link.caller item.uid since link.receiver Broken (Ok tt) mid → TriesAgain w mid link item
+settled_broken w mid link item since t =
+    let waits = t.call.0.0 in
     let rows = λ (b : Book). map.get b.rows (item.uid, link.receiver) in
     let books : mid.books link.caller ≡ t.book = ap (λ (u : World). u.books link.caller) t.called.is ∙ book_here w.books link.caller t.book in (
       waits.0,
@@ -77,8 +77,8 @@ some_is a b e = cc
 first_tries : (w mid : World) (link : Link) (item : Instance) → IsNext (w.books link.caller) link.receiver w.time item → SettlesFirst w link (Some (Ok tt)) mid → TriesAgain w mid link item
 first_tries w mid link item next s =
     let same : s.0 ≡ item = some_is s.0 item (next_is_one (w.books link.caller) link.receiver w.time (Some s.0) (Some item) s.1 next) in
-    let P : Instance → Type 0 = λ i. Settlement w link.caller i.uid link.receiver Broken (Ok tt) mid in
-    settled_broken w mid link item (subst P same s.2)
+    let P : Instance → Type 0 = λ i. Settlement w link.caller i.uid (line_count w link.caller) link.receiver Broken (Ok tt) mid in
+    settled_broken w mid link item (line_count w link.caller) (subst P same s.2)
 
 pub rejected_tries_again : RejectedTriesAgain
 rejected_tries_again w v number link item at rejecting next s =

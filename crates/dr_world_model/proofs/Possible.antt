@@ -1,11 +1,10 @@
 -- One store over one hop can happen.
-use Rattle.std.specs.Prelude.{◌≡◌, ◌≢◌, ℕ, ◌<◌, Bool, true, false, cond, List, [], ◌∷◌, ◌++◌, length, Contains, None, Some}
+use Rattle.std.specs.Prelude.{◌≡◌, ◌≢◌, ℕ, ◌<◌, Bool, true, false, cond, List, [], ◌∷◌, ◌++◌, length, Contains, Some}
 use Rattle.std.proofs.Common.{refl, sym, ap, subst, ◌∙◌, arith}
 use mathlib.Core.Logic.{inl, inr}
 use Rattle.std.specs.declared.cmp.Ordering.TheVariants.{Greater}
 use Rattle.std.specs.Ordering.{nat_cmp, eq_by_cmp}
 use Rattle.std.specs.FinMap as map
-use Rattle.std.specs.FinMap.{FinMap}
 use Rattle.std.specs.FinSet as set
 use Rattle.std.specs.FinSet.{FinSet}
 use Rattle.dr_base.specs.Texts.{Text, text_cmp}
@@ -22,10 +21,10 @@ use Rattle.dr_ledger.specs.declared.item.Progress.TheVariants.{Waiting, Held, Do
 use Rattle.dr_ledger.specs.Pairs.{pair_cmp}
 use Rattle.dr_ledger.specs.Books.{Book, Settling, Dropping, Forgetting, empty_book, after, is_queued, row_after, Fold}
 use Rattle.dr_ledger.specs.PlanRoutes.{plan_routing, targets, keeps}
-use Rattle.dr_ledger.specs.Replies.{IsAdmitted, IsNext, IsNoLater, IsOver, arrival_line}
+use Rattle.dr_ledger.specs.Replies.{IsAdmitted, IsNext, IsNoLater, IsOver, IsThereSince, arrival_line}
 use Rattle.dr_ledger.proofs.PlanRouting.{nothing_kept_for_local, targets_are_sent_to}
 use Rattle.dr_world_model.specs.Worlds.{World, Link, Contexts, Stage, Asking, Answering, Open, Storing, Replying, start, same_text, with_book, with_armed, with_link}
-use Rattle.dr_world_model.specs.Steps.{AcceptsOffered, IsLink, NoneIsPending, others, others_of, asked, pending}
+use Rattle.dr_world_model.specs.Steps.{AcceptsOffered, IsLink, line_count, others, others_of, asked}
 use Rattle.dr_world_model.specs.Claims.{WasGivenUp}
 use Rattle.dr_world_model.specs.Events.{HasNode}
 use Rattle.dr_world_model.specs.Runs.{Action, Occurs, Adopt, Runs}
@@ -38,6 +37,7 @@ use Rattle.dr_world_model.proofs.Counted.{others_are_counted}
 use Rattle.dr_world_model.proofs.Walking.{reached_on}
 use Rattle.dr_ledger.proofs.Growing.{inside, rows_made, rows_from, settled_is, dropped_is, given_up}
 use Rattle.dr_ledger.proofs.Folding.{fold_after}
+use Rattle.dr_ledger.proofs.HandedOut.{there_now}
 use Rattle.dr_ledger.proofs.Forgotten.{arrival_left}
 use Rattle.dr_ledger.proofs.Overs.{forgettings_take_their_uid}
 use Rattle.dr_ledger.proofs.Since.{taken_now, taken_still}
@@ -103,13 +103,13 @@ module _ (plan : Network) (s m : Text) (item : Instance) (accepted : Contexts) (
   w4 = with_link w3 1 (l (Open accepted))
 
   abbrev w5 : World
-  w5 = with_link w4 1 (l (Storing accepted item))
+  w5 = with_link w4 1 (l (Storing accepted item (line_count w1 s)))
 
   abbrev v6 : World
   v6 = with_armed (with_book w5 m (brought s m)) set.empty
 
   abbrev w6 : World
-  w6 = with_link v6 1 (l (Replying accepted item 0))
+  w6 = with_link v6 1 (l (Replying accepted item (line_count w1 s) 0))
 
   abbrev b3 : Book
   b3 = after (Settling item.uid m (Status 0) 0) (w6.books s)
@@ -157,6 +157,12 @@ module _ (plan : Network) (s m : Text) (item : Instance) (accepted : Contexts) (
 
   here_6 : w6.books s ≡ brought local s
   here_6 = book_there w5.books m (brought s m) s (apart s m differ) ∙ here_1
+
+  -- nothing was forgotten meanwhile
+  still_6 : IsThereSince (w6.books s).lines item.uid (line_count w1 s)
+  still_6 =
+      let P : Book → Type 0 = λ b. IsThereSince (w6.books s).lines item.uid (length b.lines) in
+      subst P (here_6 ∙ sym here_1) (there_now (w6.books s).lines item.uid)
 
   -- there is no other link
   alone : (other : ℕ) → Contains (others_of w2 1 m) other → ⊥
@@ -210,10 +216,11 @@ module _ (plan : Network) (s m : Text) (item : Instance) (accepted : Contexts) (
               (
                 w6,
                 record {
-                  link = l (Storing accepted item);
+                  link = l (Storing accepted item (line_count w1 s));
                   accepted = accepted;
                   item = item;
-                  at = at w4 (l (Storing accepted item));
+                  since = line_count w1 s;
+                  at = at w4 (l (Storing accepted item (line_count w1 s)));
                   on = refl;
                   stage = refl;
                   mid = v6;
@@ -229,17 +236,18 @@ module _ (plan : Network) (s m : Text) (item : Instance) (accepted : Contexts) (
                 (
                   w7,
                   record {
-                    link = l (Replying accepted item 0);
+                    link = l (Replying accepted item (line_count w1 s) 0);
                     accepted = accepted;
                     item = item;
+                    since = line_count w1 s;
                     status = 0;
-                    at = at v6 (l (Replying accepted item 0));
+                    at = at v6 (l (Replying accepted item (line_count w1 s) 0));
                     on = refl;
                     stage = refl;
                     mid = v7;
                     call = record {
                       book = b3;
-                      call = ((0, 0, ap (λ (b : Book). map.get b.rows (item.uid, m)) here_6 ∙ row_there), refl);
+                      call = (((0, 0, ap (λ (b : Book). map.get b.rows (item.uid, m)) here_6 ∙ row_there), still_6), refl);
                       called = record { armed = set.empty; store = (set.contains-empty text_cmp s, refl); is = refl };
                     };
                     is = refl;
@@ -312,26 +320,6 @@ module _ (plan : Network) (s m : Text) (item : Instance) (accepted : Contexts) (
     over_7 : IsOver (w7.books s) item.uid
     over_7 = subst (λ b. IsOver b item.uid) (sym here_7) stored_over
 
-    -- link 1 is the only one
-    abbrev Only : FinMap nat_cmp Link → Type 0
-    Only links = (number : ℕ) (link : Link) → map.get links number ≡ Some link → number ≡ 1
-
-    only_with : (links : FinMap nat_cmp Link) (x : Link) → Only links → Only (map.insert links 1 x)
-    only_with links x only number link h = elim (got numbers links 1 x number link h) [ inl e ↦ e.0 | inr n ↦ only number link n.1 ]
-
-    only_7 : Only w7.links
-    only_7 =
-        let none : Only w1.links = λ number link h. absurd (no_row link (sym (map.get-empty nat_cmp number) ∙ h)) in
-        only_with w6.links _ (only_with w5.links _ (only_with w4.links _ (only_with w3.links _ (only_with w2.links _ (only_with w1.links _ none)))))
-
-    none_pending : NoneIsPending w7 s item.uid
-    none_pending number link i is_link caller on p same =
-        let one = only_7 number link is_link in
-        let P : ℕ → Type 0 = λ n. map.get w7.links n ≡ Some link in
-        let link_is : l (Open accepted) ≡ link = inside (l (Open accepted)) link (sym (at v7 (l (Open accepted))) ∙ subst P one is_link) in
-        let e : None ≡ Some i = ap (λ (x : Link). pending x.stage) link_is ∙ p in
-        let none : ⊥ = cc in none
-
     admitted_8 : IsAdmitted (plan_routing plan s) local other (w8.books s)
     admitted_8 = record {
       line = entered;
@@ -345,7 +333,7 @@ module _ (plan : Network) (s m : Text) (item : Instance) (accepted : Contexts) (
     forgotten_and_taken : Runs plan w7 (forgotten_and_back s item other) plan w9
     forgotten_and_taken = (
       w8,
-      (here, none_pending, record { book = f8; call = (over_7, refl); called = record { armed = set.empty; store = (set.contains-empty text_cmp s, refl); is = refl } }),
+      (here, record { book = f8; call = (over_7, refl); called = record { armed = set.empty; store = (set.contains-empty text_cmp s, refl); is = refl } }),
       (
         w9,
         (here, record { book = g9; call = (admitted_8, first_8, refl); called = record { armed = set.empty; store = (set.contains-empty text_cmp s, refl); is = refl } }),
@@ -406,13 +394,13 @@ module _ (plan : Network) (s m : Text) (item : Instance) (accepted : Contexts) (
     d4 = with_link d3 1 (l (Open accepted))
 
     abbrev d5 : World
-    d5 = with_link d4 1 (l (Storing accepted item))
+    d5 = with_link d4 1 (l (Storing accepted item (line_count d1 s)))
 
     abbrev e6 : World
     e6 = with_armed (with_book d5 m (d5.books m)) set.empty
 
     abbrev d6 : World
-    d6 = with_link e6 1 (l (Replying accepted item 0xC0F1))
+    d6 = with_link e6 1 (l (Replying accepted item (line_count d1 s) 0xC0F1))
 
     abbrev b7 : Book
     b7 = after (Settling item.uid m (Status 0xC0F1) 0) (d6.books s)
@@ -449,6 +437,11 @@ module _ (plan : Network) (s m : Text) (item : Instance) (accepted : Contexts) (
 
     s_6 : d6.books s ≡ brought local s
     s_6 = book_there d5.books m (d5.books m) s (apart s m differ) ∙ s_1
+
+    still_there : IsThereSince (d6.books s).lines item.uid (line_count d1 s)
+    still_there =
+        let P : Book → Type 0 = λ b. IsThereSince (d6.books s).lines item.uid (length b.lines) in
+        subst P (s_6 ∙ sym s_1) (there_now (d6.books s).lines item.uid)
 
     row_6 : map.get (d6.books s).rows (item.uid, m) ≡ Some (Waiting 0 0)
     row_6 = ap (λ (b : Book). map.get b.rows (item.uid, m)) s_6 ∙ row_there
@@ -563,10 +556,11 @@ module _ (plan : Network) (s m : Text) (item : Instance) (accepted : Contexts) (
                 (
                   d6,
                   record {
-                    link = l (Storing accepted item);
+                    link = l (Storing accepted item (line_count d1 s));
                     accepted = accepted;
                     item = item;
-                    at = at d4 (l (Storing accepted item));
+                    since = line_count d1 s;
+                    at = at d4 (l (Storing accepted item (line_count d1 s)));
                     on = refl;
                     stage = refl;
                     mid = e6;
@@ -580,17 +574,18 @@ module _ (plan : Network) (s m : Text) (item : Instance) (accepted : Contexts) (
                   (
                     d7,
                     record {
-                      link = l (Replying accepted item 0xC0F1);
+                      link = l (Replying accepted item (line_count d1 s) 0xC0F1);
                       accepted = accepted;
                       item = item;
+                      since = line_count d1 s;
                       status = 0xC0F1;
-                      at = at e6 (l (Replying accepted item 0xC0F1));
+                      at = at e6 (l (Replying accepted item (line_count d1 s) 0xC0F1));
                       on = refl;
                       stage = refl;
                       mid = e7;
                       call = record {
                         book = b7;
-                        call = ((0, 0, row_6), refl);
+                        call = (((0, 0, row_6), still_there), refl);
                         called = record { armed = set.empty; store = (set.contains-empty text_cmp s, refl); is = refl };
                       };
                       is = refl;

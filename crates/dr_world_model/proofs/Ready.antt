@@ -17,10 +17,11 @@ use Rattle.dr_ledger.specs.declared.item.Outcome.TheVariants.{Status, Broken, No
 use Rattle.dr_ledger.specs.declared.item.Arrived.TheVariants.{Again}
 use Rattle.dr_ledger.specs.Books.{Book, Repeat, Settling, Requeuing, Dropping, Forgetting, after, empty_book}
 use Rattle.dr_ledger.specs.PlanRoutes.{plan_routing}
-use Rattle.dr_ledger.specs.Replies.{IsAdmitted, IsWaiting, arrival_line, store_status, Reply}
+use Rattle.dr_ledger.specs.Replies.{IsAdmitted, IsWaiting, IsWaitingSince, arrival_line, store_status, Reply}
+use Rattle.dr_ledger.proofs.HandedOut.{there_now}
 use Rattle.dr_world_model.specs.Worlds.{World, Link, Contexts, Storing, Replying, start, with_book, with_armed, with_link, without_caller, at_stage}
 use Rattle.dr_world_model.specs.Calls.{Arriving, Settlement}
-use Rattle.dr_world_model.specs.Steps.{Leaves, pending, SettlesPending, after_settling}
+use Rattle.dr_world_model.specs.Steps.{Leaves, handed_out, line_count, pending, SettlesPending, after_settling}
 use Rattle.dr_world_model.specs.Events.{Receive}
 use Rattle.dr_world_model.specs.Happening.{TakesHappen, OpeningsHappen, StoresHappen, RefusalsHappen, EndingsHappen, EventsHappen, ARefusalIsSpent, CanHappen, Writes, IsCallers, IsReceivers}
 use Rattle.dr_ledger.proofs.Maps.{texts, contains_new, ties_itself}
@@ -34,12 +35,17 @@ use Rattle.dr_world_model.proofs.Possible.{flow_of}
 abbrev pub settled : World → Text → Text → Text → Outcome → World
 settled w name uid dest outcome = with_armed (with_book w name (after (Settling uid dest outcome w.time) (w.books name))) w.armed
 
-pub settles : (w : World) (name uid dest : Text) (outcome : Outcome) → Writes w name → IsWaiting (w.books name) uid dest → Settlement w name uid dest outcome (Ok tt) (settled w name uid dest outcome)
-settles w name uid dest outcome writes waits = record {
+pub settles : (w : World) (name uid : Text) (since : ℕ) (dest : Text) (outcome : Outcome) → Writes w name → IsWaitingSince (w.books name) uid since dest →
+    Settlement w name uid since dest outcome (Ok tt) (settled w name uid dest outcome)
+settles w name uid since dest outcome writes waits = record {
   book = after (Settling uid dest outcome w.time) (w.books name);
   call = (waits, refl);
   called = record { armed = w.armed; store = (writes, refl); is = refl };
 }
+
+-- a row that waits is of what is there now
+waits_now : (w : World) (name uid dest : Text) → IsWaiting (w.books name) uid dest → IsWaitingSince (w.books name) uid (line_count w name) dest
+waits_now w name uid dest waits = (waits, there_now (w.books name).lines uid)
 
 module _ (plan : Network) (w : World) where
   takes : TakesHappen plan w
@@ -71,18 +77,30 @@ module _ (plan : Network) (w : World) where
             link = link;
             at = on.0;
             on = on.1;
-            then = inr (stage, (mid, (item, first, settles w link.caller item.uid link.receiver Broken writes (first.row.0.0, first.due, first.row.0.1)), refl));
+            then = inr (
+              stage,
+              (
+                mid,
+                (
+                  item,
+                  first,
+                  settles w link.caller item.uid (line_count w link.caller) link.receiver Broken writes
+                      (waits_now w link.caller item.uid link.receiver (first.row.0.0, first.due, first.row.0.1)),
+                ),
+                refl,
+              ),
+            );
           },
         );
     rejected_idle = λ number link on stage none. (with_link w number (without_caller link), record { link = link; at = on.0; on = on.1; then = inr (stage, (w, (none, refl), refl)) });
   }
 
   -- the receiver takes the instance, with whatever reply
-  received : (number : ℕ) (link : Link) (accepted : Contexts) (item : Instance) (reply : Reply) (mid : World) → IsReceivers w number link → link.stage ≡ Storing accepted item →
+  received : (number : ℕ) (link : Link) (accepted : Contexts) (item : Instance) (since : ℕ) (reply : Reply) (mid : World) → IsReceivers w number link → link.stage ≡ Storing accepted item since →
       Arriving plan w link.receiver link.caller item reply mid → CanHappen plan w (Receive number reply)
-  received number link accepted item reply mid on stage call = (
-    with_link mid number (at_stage link (Replying accepted item (store_status reply))),
-    record { link = link; accepted = accepted; item = item; at = on.0; on = on.1; stage = stage; mid = mid; call = call; is = refl },
+  received number link accepted item since reply mid on stage call = (
+    with_link mid number (at_stage link (Replying accepted item since (store_status reply))),
+    record { link = link; accepted = accepted; item = item; since = since; at = on.0; on = on.1; stage = stage; mid = mid; call = call; is = refl },
   )
 
   -- the book as it was, after a call that added no line
@@ -104,7 +122,15 @@ module _ (plan : Network) (w : World) where
             on = on.1;
             stage = stage;
             first = first;
-            then = (lacks, (mid, settles w link.caller item.uid link.receiver NoContext writes (first.row.0.0, first.due, first.row.0.1), refl));
+            then = (
+              lacks,
+              (
+                mid,
+                settles w link.caller item.uid (line_count w link.caller) link.receiver NoContext writes
+                    (waits_now w link.caller item.uid link.receiver (first.row.0.0, first.due, first.row.0.1)),
+                refl,
+              ),
+            );
           },
         );
     unreadable = λ number link accepted item on stage first writes.
@@ -119,18 +145,20 @@ module _ (plan : Network) (w : World) where
             stage = stage;
             first = first;
             mid = mid;
-            call = settles w link.caller item.uid link.receiver Unreadable writes (first.row.0.0, first.due, first.row.0.1);
+            call = settles w link.caller item.uid (line_count w link.caller) link.receiver Unreadable writes
+                (waits_now w link.caller item.uid link.receiver (first.row.0.0, first.due, first.row.0.1));
             is = refl;
           },
         );
-    receive = λ number link accepted item on stage writes admitted none.
+    receive = λ number link accepted item since on stage writes admitted none.
         let book = after (arrival_line (plan_routing plan link.receiver) link.caller item) (w.books link.receiver) in
         let mid = with_armed (with_book w link.receiver book) w.armed in (
-          with_link mid number (at_stage link (Replying accepted item 0)),
+          with_link mid number (at_stage link (Replying accepted item since 0)),
           record {
             link = link;
             accepted = accepted;
             item = item;
+            since = since;
             at = on.0;
             on = on.1;
             stage = stage;
@@ -139,42 +167,44 @@ module _ (plan : Network) (w : World) where
             is = refl;
           },
         );
-    received_again = λ number link accepted item on stage writes admitted had.
+    received_again = λ number link accepted item since on stage writes admitted had.
         let book = after (Repeat link.caller item) (w.books link.receiver) in
-        received number link accepted item (Ok Again) (with_armed (with_book w link.receiver book) w.armed) on stage
+        received number link accepted item since (Ok Again) (with_armed (with_book w link.receiver book) w.armed) on stage
         (record { book = book; call = (admitted, had, refl); called = record { armed = w.armed; store = (writes, refl); is = refl } });
-    received_no_line = λ number link accepted item on stage none.
-        received number link accepted item (Err fault.NoLine) (unwritten link.receiver) on stage
+    received_no_line = λ number link accepted item since on stage none.
+        received number link accepted item since (Err fault.NoLine) (unwritten link.receiver) on stage
         (record { book = w.books link.receiver; call = (none, refl); called = record { armed = w.armed; store = refl; is = refl } });
-    received_conflict = λ number link accepted item on stage line other.
-        received number link accepted item (Err fault.Conflict) (unwritten link.receiver) on stage
+    received_conflict = λ number link accepted item since on stage line other.
+        received number link accepted item since (Err fault.Conflict) (unwritten link.receiver) on stage
         (record { book = w.books link.receiver; call = (line, other, refl); called = record { armed = w.armed; store = refl; is = refl } });
-    received_store = λ number link accepted item on stage line.
-        received number link accepted item (Err fault.Store) (unwritten link.receiver) on stage
+    received_store = λ number link accepted item since on stage line.
+        received number link accepted item since (Err fault.Store) (unwritten link.receiver) on stage
         (record { book = w.books link.receiver; call = (line, refl); called = record { armed = w.armed; store = inl refl; is = refl } });
-    answered = λ number link accepted item status on stage writes waits.
+    answered = λ number link accepted item since status on stage writes waits.
         let mid = settled w link.caller item.uid link.receiver (Status status) in (
           with_link mid number (after_settling link (Ok tt) accepted),
           record {
             link = link;
             accepted = accepted;
             item = item;
+            since = since;
             status = status;
             at = on.0;
             on = on.1;
             stage = stage;
             mid = mid;
-            call = settles w link.caller item.uid link.receiver (Status status) writes waits;
+            call = settles w link.caller item.uid since link.receiver (Status status) writes waits;
             is = refl;
           },
         );
-    settled_before = λ number link accepted item status on stage waits_not.
+    settled_before = λ number link accepted item since status on stage waits_not.
         let mid = with_armed (with_book w link.caller (w.books link.caller)) w.armed in (
           with_link mid number (after_settling link (Err fault.NotWaiting) accepted),
           record {
             link = link;
             accepted = accepted;
             item = item;
+            since = since;
             status = status;
             at = on.0;
             on = on.1;
@@ -187,7 +217,8 @@ module _ (plan : Network) (w : World) where
   }
 
   -- a caller with a row pending leaves
-  left : (number : ℕ) (link : Link) (item : Instance) → IsCallers w number link → pending link.stage ≡ Some item → Writes w link.caller → IsWaiting (w.books link.caller) item.uid link.receiver →
+  left : (number : ℕ) (link : Link) (item : Instance) → IsCallers w number link → pending link.stage ≡ Some item → Writes w link.caller →
+      IsWaitingSince (w.books link.caller) item.uid (handed_out link.stage) link.receiver →
       Leaves w number (Some (Ok tt)) (with_link (settled w link.caller item.uid link.receiver Broken) number (without_caller link))
   left number link item on waiting writes waits = record {
     link = link;
@@ -195,28 +226,29 @@ module _ (plan : Network) (w : World) where
     on = on.1;
     mid = settled w link.caller item.uid link.receiver Broken;
     broken = (let P : Option Instance → Type 0 = λ o. SettlesPending w link o (Some (Ok tt)) (settled w link.caller item.uid link.receiver Broken) in
-        subst P (sym waiting) (settles w link.caller item.uid link.receiver Broken writes waits));
+        subst P (sym waiting) (settles w link.caller item.uid (handed_out link.stage) link.receiver Broken writes waits));
     is = refl;
   }
 
   -- a settling that the store refused
-  unsettled : (name uid dest : Text) (outcome : Outcome) → Settlement w name uid dest outcome (Err fault.Store) (unwritten name)
-  unsettled name uid dest outcome = record { book = w.books name; call = refl; called = record { armed = w.armed; store = inl refl; is = refl } }
+  unsettled : (name uid : Text) (since : ℕ) (dest : Text) (outcome : Outcome) → Settlement w name uid since dest outcome (Err fault.Store) (unwritten name)
+  unsettled name uid since dest outcome = record { book = w.books name; call = refl; called = record { armed = w.armed; store = inl refl; is = refl } }
 
   refusals : RefusalsHappen plan w
   refusals = record {
-    answered = λ number link accepted item status on stage. (
+    answered = λ number link accepted item since status on stage. (
       with_link (unwritten link.caller) number (after_settling link (Err fault.Store) accepted),
       record {
         link = link;
         accepted = accepted;
         item = item;
+        since = since;
         status = status;
         at = on.0;
         on = on.1;
         stage = stage;
         mid = unwritten link.caller;
-        call = unsettled link.caller item.uid link.receiver (Status status);
+        call = unsettled link.caller item.uid since link.receiver (Status status);
         is = refl;
       },
     );
@@ -228,7 +260,7 @@ module _ (plan : Network) (w : World) where
         on = on.1;
         mid = unwritten link.caller;
         broken = (let P : Option Instance → Type 0 = λ o. SettlesPending w link o (Some (Err fault.Store)) (unwritten link.caller) in
-            subst P (sym waiting) (unsettled link.caller item.uid link.receiver Broken));
+            subst P (sym waiting) (unsettled link.caller item.uid (handed_out link.stage) link.receiver Broken));
         is = refl;
       },
     );
@@ -243,17 +275,17 @@ module _ (plan : Network) (w : World) where
         stage = stage;
         first = first;
         mid = unwritten link.caller;
-        call = unsettled link.caller item.uid link.receiver Unreadable;
+        call = unsettled link.caller item.uid (line_count w link.caller) link.receiver Unreadable;
         is = refl;
       },
     );
-    away = λ node uid dest is. (unwritten node, (is, unsettled node uid dest Broken));
+    away = λ node uid dest is. (unwritten node, (is, (line_count w node, unsettled node uid (line_count w node) dest Broken)));
     requeue = λ node uid dest is.
         (unwritten node, (is, record { book = w.books node; call = refl; called = record { armed = w.armed; store = inl refl; is = refl } }));
     drop = λ node uid dest is.
         (unwritten node, (is, record { book = w.books node; call = refl; called = record { armed = w.armed; store = inl refl; is = refl } }));
-    forget = λ node uid is none.
-        (unwritten node, (is, none, record { book = w.books node; call = refl; called = record { armed = w.armed; store = inl refl; is = refl } }));
+    forget = λ node uid is.
+        (unwritten node, (is, record { book = w.books node; call = refl; called = record { armed = w.armed; store = inl refl; is = refl } }));
   }
 
   -- an idle caller leaves
@@ -287,9 +319,10 @@ module _ (plan : Network) (w : World) where
         is = refl;
       },
     );
-    away = λ node uid dest is writes waits. (settled w node uid dest Broken, (is, settles w node uid dest Broken writes waits));
+    away = λ node uid dest is writes waits.
+        (settled w node uid dest Broken, (is, (line_count w node, settles w node uid (line_count w node) dest Broken writes (waits_now w node uid dest waits))));
     away_settled_before = λ node uid dest is waits_not.
-        (unwritten node, (is, record { book = w.books node; call = (waits_not, refl); called = record { armed = w.armed; store = refl; is = refl } }));
+        (unwritten node, (is, (line_count w node, record { book = w.books node; call = ((λ h. waits_not h.0), refl); called = record { armed = w.armed; store = refl; is = refl } })));
     requeue = λ node uid dest is writes held.
         let book = after (Requeuing uid dest) (w.books node) in
         (with_armed (with_book w node book) w.armed, (is, record { book = book; call = (held, refl); called = record { armed = w.armed; store = (writes, refl); is = refl } }));
@@ -300,11 +333,11 @@ module _ (plan : Network) (w : World) where
         (with_armed (with_book w node book) w.armed, (is, record { book = book; call = (held, refl); called = record { armed = w.armed; store = (writes, refl); is = refl } }));
     drop_not_held = λ node uid dest is held_not.
         (unwritten node, (is, record { book = w.books node; call = (held_not, refl); called = record { armed = w.armed; store = refl; is = refl } }));
-    forget = λ node uid is writes none over.
+    forget = λ node uid is writes over.
         let book = after (Forgetting uid) (w.books node) in
-        (with_armed (with_book w node book) w.armed, (is, none, record { book = book; call = (over, refl); called = record { armed = w.armed; store = (writes, refl); is = refl } }));
-    forget_not_over = λ node uid is none over_not.
-        (unwritten node, (is, none, record { book = w.books node; call = (over_not, refl); called = record { armed = w.armed; store = refl; is = refl } }));
+        (with_armed (with_book w node book) w.armed, (is, record { book = book; call = (over, refl); called = record { armed = w.armed; store = (writes, refl); is = refl } }));
+    forget_not_over = λ node uid is over_not.
+        (unwritten node, (is, record { book = w.books node; call = (over_not, refl); called = record { armed = w.armed; store = refl; is = refl } }));
     refuse = λ node is. (_, (is, refl));
     tick = λ ms. (_, refl);
   }

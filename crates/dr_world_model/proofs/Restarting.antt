@@ -1,5 +1,5 @@
 -- A restart can happen in every world, and an adoption where all nodes may take the plan.
-use Rattle.std.specs.Prelude.{◌≡◌, ℕ, ◌⊎◌, Bool, true, false, cond, T, ◌&&◌, List, [], ◌∷◌, map as mapped, Contains, Option, None, Some, is_some, Ok, Err}
+use Rattle.std.specs.Prelude.{◌≡◌, ℕ, ◌⊎◌, Bool, true, false, cond, T, ◌&&◌, List, [], ◌∷◌, drop, map as mapped, Contains, Option, None, Some, is_some, Ok, Err}
 use Rattle.std.proofs.Common.{refl, sym, ap, subst, ◌∙◌}
 use mathlib.Core.Logic.{inl, inr}
 use Rattle.std.specs.declared.cmp.Ordering.{Ordering}
@@ -19,10 +19,10 @@ use Rattle.dr_ledger.specs.declared.item.Outcome.TheVariants.{Broken}
 use Rattle.dr_ledger.specs.declared.item.Progress.{Progress}
 use Rattle.dr_ledger.specs.declared.item.Progress.TheVariants.{Waiting, Held, Done, Dropped}
 use Rattle.dr_ledger.specs.Books.{Book, Adoption, after, empty_book}
-use Rattle.dr_ledger.specs.Replies.{IsWaiting}
+use Rattle.dr_ledger.specs.Replies.{IsThereSince, IsWaitingSince}
 use Rattle.dr_world_model.specs.Worlds.{World, Link, same_text, with_book, with_armed, with_link, without_caller}
 use Rattle.dr_world_model.specs.Calls.{Answer, Settlement}
-use Rattle.dr_world_model.specs.Steps.{IsLink, pending, SettlesPending, Leaves, LeaveAll, calls, callers_of}
+use Rattle.dr_world_model.specs.Steps.{IsLink, handed_out, pending, SettlesPending, Leaves, LeaveAll, calls, callers_of}
 use Rattle.dr_world_model.specs.Events.{HasNode}
 use Rattle.std.proofs.lemmas.Map.Views.{tells_apart}
 use Rattle.dr_ledger.proofs.Maps.{texts}
@@ -33,12 +33,13 @@ use Rattle.dr_ledger.proofs.Maps.{cases_of, same_or_not, ties_itself, get_other}
 use Rattle.dr_world_model.proofs.Lookups.{numbers}
 use Rattle.dr_world_model.proofs.Picking.{any_in, in_any, both, both_true, first_of_two}
 use Rattle.dr_world_model.proofs.Ready.{settles}
+use Rattle.dr_ledger.proofs.HandedOut.{forgotten_or_not}
 
 -- ---- a settling has an answer, and leaves the links
-record Settled (w : World) (name uid dest : Text) (outcome : Outcome) : Type 0 where
+record Settled (w : World) (name uid : Text) (since : ℕ) (dest : Text) (outcome : Outcome) : Type 0 where
   answer : Answer
   new : World
-  is : Settlement w name uid dest outcome answer new
+  is : Settlement w name uid since dest outcome answer new
   links : new.links ≡ w.links
 
 none_waits : (o : Option Progress) → ((tries due : ℕ) → o ≡ Some (Waiting tries due) → ⊥) ⊎ ((tries : ℕ) × (due : ℕ) × (o ≡ Some (Waiting tries due)))
@@ -48,8 +49,8 @@ none_waits (Some (Held why)) = inl (λ tries due e. let f : ⊥ = cc in f)
 none_waits (Some Done) = inl (λ tries due e. let f : ⊥ = cc in f)
 none_waits (Some Dropped) = inl (λ tries due e. let f : ⊥ = cc in f)
 
-module _ (w : World) (name uid dest : Text) (outcome : Outcome) where
-  refused : IsWaiting (w.books name) uid dest → set.contains w.armed name ≡ true → Settled w name uid dest outcome
+module _ (w : World) (name uid : Text) (since : ℕ) (dest : Text) (outcome : Outcome) where
+  refused : IsWaitingSince (w.books name) uid since dest → set.contains w.armed name ≡ true → Settled w name uid since dest outcome
   refused waits told = record {
     answer = Err fault.Store;
     new = with_armed (with_book w name (w.books name)) (set.remove w.armed name);
@@ -57,7 +58,7 @@ module _ (w : World) (name uid dest : Text) (outcome : Outcome) where
     links = refl;
   }
 
-  waits_not : (IsWaiting (w.books name) uid dest → ⊥) → Settled w name uid dest outcome
+  waits_not : (IsWaitingSince (w.books name) uid since dest → ⊥) → Settled w name uid since dest outcome
   waits_not none = record {
     answer = Err fault.NotWaiting;
     new = with_armed (with_book w name (w.books name)) w.armed;
@@ -65,13 +66,19 @@ module _ (w : World) (name uid dest : Text) (outcome : Outcome) where
     links = refl;
   }
 
-  settled : Settled w name uid dest outcome
-  settled = elim (none_waits (map.get (w.books name).rows (uid, dest))) [
-    | inl none ↦ waits_not (λ h. none h.0 h.1 h.2)
+  settled_there : IsThereSince (w.books name).lines uid since → Settled w name uid since dest outcome
+  settled_there there = elim (none_waits (map.get (w.books name).rows (uid, dest))) [
+    | inl none ↦ waits_not (λ h. none h.0.0 h.0.1 h.0.2)
     | inr waits ↦ elim (cases_of (set.contains w.armed name)) [
-      | inl told ↦ refused waits told
-      | inr free ↦ record { answer = Ok tt; new = _; is = settles w name uid dest outcome free waits; links = refl }
+      | inl told ↦ refused (waits, there) told
+      | inr free ↦ record { answer = Ok tt; new = _; is = settles w name uid since dest outcome free (waits, there); links = refl }
     ]
+  ]
+
+  settled : Settled w name uid since dest outcome
+  settled = elim (forgotten_or_not uid (drop since (w.books name).lines)) [
+    | inl gone ↦ waits_not (λ h. h.1 gone)
+    | inr there ↦ settled_there there
   ]
 
 -- ---- a caller leaves
@@ -91,7 +98,7 @@ by_pending w number link None e at on = record {
   links = refl;
 }
 by_pending w number link (Some item) e at on =
-    let s = settled w link.caller item.uid link.receiver Broken in
+    let s = settled w link.caller item.uid (handed_out link.stage) link.receiver Broken in
     record {
       answer = Some s.answer;
       new = with_link s.new number (without_caller link);

@@ -1,6 +1,7 @@
 -- What holds of each world that events reach, and how one changed book or link keeps it.
-use Rattle.std.specs.Prelude.{◌≡◌, ℕ, ◌⊎◌, Bool, true, false, cond, Contains, Some}
-use Rattle.std.proofs.Common.{refl, sym, ap, subst, ◌∙◌}
+use Rattle.std.specs.Prelude.{◌≡◌, ℕ, ◌+◌, ◌≤◌, ◌⊎◌, Bool, false, cond, List, length, take, drop, Contains, Some}
+use Rattle.std.proofs.Common.{refl, sym, ap, subst, ◌∙◌, arith}
+use Rattle.std.proofs.lemmas.List.{take-append-drop, take-append-le, take_all, length-append}
 use mathlib.Core.Logic.{inl, inr}
 use Rattle.std.specs.FinMap as map
 use Rattle.dr_base.specs.Texts.{Text}
@@ -9,11 +10,14 @@ use Rattle.dr_plan_model.specs.Networks.{Network}
 use Rattle.dr_plan_model.specs.Walks.{Goes, Sends}
 use Rattle.dr_ledger.specs.declared.item.Instance.{Instance}
 use Rattle.dr_ledger.specs.declared.item.Progress.TheVariants.{Done}
-use Rattle.dr_ledger.specs.Books.{Book, Line, Fold}
+use Rattle.dr_ledger.specs.Books.{Book, Line, Fold, empty_book, folded}
 use Rattle.dr_ledger.specs.OneNode.{HasSucceededSince}
+use Rattle.dr_ledger.specs.Replies.{IsThereSince}
+use Rattle.dr_ledger.proofs.Folding.{folded_append}
+use Rattle.dr_ledger.proofs.HandedOut.{items_still}
 use Rattle.dr_world_model.specs.Worlds.{World, Link, Stage, Asking, Answering, Rejecting, Open, Storing, Replying, Gone, same_text, books_with, with_book, with_link}
 use Rattle.dr_world_model.specs.Claims.{Has, HadArrival, IsToSend, WasCarriedOver, WasGivenUp, HasSource, IsFairLine, IsFairStatus, CoversHop}
-use Rattle.dr_world_model.specs.Steps.{IsLink, pending}
+use Rattle.dr_world_model.specs.Steps.{IsLink}
 use Rattle.dr_ledger.proofs.Maps.{texts, same_or_not, ties_itself, got}
 use Rattle.dr_world_model.proofs.Lookups.{numbers}
 use Rattle.dr_world_model.proofs.Keeping.{IsRight, Grows, GoesOn, Took, grows_same, grows_on}
@@ -23,22 +27,22 @@ pub record IsSent (plan : Network) (w : World) (name to : Text) (item : Instance
   pub goes : Goes plan item.key name to
   pub source : HasSource plan w name to item
 
--- a caller that is connected still has what it has pending
-abbrev pub HasStill : World → Text → Bool → Instance → Type 0
-HasStill w caller connected item = connected ≡ true → Has w caller item
+-- when its journal had so many lines, the book had the item
+abbrev pub WasHad : Book → ℕ → Instance → Type 0
+WasHad b since item = (since ≤ length b.lines) × (map.get (Fold (take since b.lines)).items item.uid ≡ Some item)
 
-abbrev pub IsFairStage : Network → World → Text → Text → Bool → Stage → Type 0
-IsFairStage plan w caller receiver connected Asking = Unit {0}
-IsFairStage plan w caller receiver connected Rejecting = Unit {0}
-IsFairStage plan w caller receiver connected Gone = Unit {0}
-IsFairStage plan w caller receiver connected (Answering accepted) = CoversHop plan caller receiver accepted
-IsFairStage plan w caller receiver connected (Open accepted) = CoversHop plan caller receiver accepted
-IsFairStage plan w caller receiver connected (Storing accepted item) = CoversHop plan caller receiver accepted × IsSent plan w caller receiver item × HasStill w caller connected item
-IsFairStage plan w caller receiver connected (Replying accepted item status) =
-    CoversHop plan caller receiver accepted × IsSent plan w caller receiver item × HasStill w caller connected item × IsFairStatus status × (status ≡ 0 → HadArrival w receiver caller item)
+abbrev pub IsFairStage : Network → World → Text → Text → Stage → Type 0
+IsFairStage plan w caller receiver Asking = Unit {0}
+IsFairStage plan w caller receiver Rejecting = Unit {0}
+IsFairStage plan w caller receiver Gone = Unit {0}
+IsFairStage plan w caller receiver (Answering accepted) = CoversHop plan caller receiver accepted
+IsFairStage plan w caller receiver (Open accepted) = CoversHop plan caller receiver accepted
+IsFairStage plan w caller receiver (Storing accepted item since) = CoversHop plan caller receiver accepted × IsSent plan w caller receiver item × WasHad (w.books caller) since item
+IsFairStage plan w caller receiver (Replying accepted item since status) =
+    CoversHop plan caller receiver accepted × IsSent plan w caller receiver item × WasHad (w.books caller) since item × IsFairStatus status × (status ≡ 0 → HadArrival w receiver caller item)
 
 abbrev pub IsFairLink : Network → World → Link → Type 0
-IsFairLink plan w link = IsFairStage plan w link.caller link.receiver link.caller_connected link.stage
+IsFairLink plan w link = IsFairStage plan w link.caller link.receiver link.stage
 
 -- by this book of the node the item is still queued for the next one, or that one had it, or a person gave it up
 abbrev pub PassesBy : Network → World → Text → Book → Instance → Text → Type 0
@@ -96,22 +100,41 @@ source_still plan old new caller name item g s = record {
 pub sent_still : (plan : Network) (old new : World) (name to : Text) (item : Instance) → WorldGrows old new → IsSent plan old name to item → IsSent plan new name to item
 sent_still plan old new name to item g s = record { goes = s.goes; source = source_still plan old new name to item g s.source }
 
--- a stage stays fair, where a connected caller still has what it has pending
-pub stage_still : (plan : Network) (old new : World) (caller receiver : Text) (connected : Bool) (stage : Stage) → WorldGrows old new →
-    ((item : Instance) → connected ≡ true → pending stage ≡ Some item → Has old caller item → Has new caller item) →
-    IsFairStage plan old caller receiver connected stage → IsFairStage plan new caller receiver connected stage
-stage_still plan old new caller receiver connected Asking g has h = tt
-stage_still plan old new caller receiver connected Rejecting g has h = tt
-stage_still plan old new caller receiver connected Gone g has h = tt
-stage_still plan old new caller receiver connected (Answering accepted) g has h = h
-stage_still plan old new caller receiver connected (Open accepted) g has h = h
-stage_still plan old new caller receiver connected (Storing accepted item) g has h = (h.0, sent_still plan old new caller receiver item g h.1, λ on. has item on refl (h.2 on))
-stage_still plan old new caller receiver connected (Replying accepted item status) g has h =
-    (h.0, sent_still plan old new caller receiver item g h.1, (λ on. has item on refl (h.2 on)), h.3, λ z. (g.books receiver).took caller item (h.4 z))
+-- what a book had at some moment it had then, whatever lines come
+pub had_still : (old new : Book) (since : ℕ) (item : Instance) → Grows old new → WasHad old since item → WasHad new since item
+had_still old new since item g h =
+    let more = g.lines.0 in
+    let longer : length new.lines ≡ length old.lines + length more = ap length g.lines.1 ∙ length-append old.lines more in
+    let early : since ≤ length old.lines = h.0 in
+    let same : take since new.lines ≡ take since old.lines = ap (take since) g.lines.1 ∙ take-append-le since old.lines more early in
+    (omega (arith, longer, early), subst (λ (ls : List Line). map.get (Fold ls).items item.uid ≡ Some item) (sym same) h.1)
 
--- every node still has what it has pending
-abbrev pub KeepsPending : World → World → Type 0
-KeepsPending old new = (number : ℕ) (link : Link) (item : Instance) → IsLink old number link → link.caller_connected ≡ true → pending link.stage ≡ Some item → Has old link.caller item → Has new link.caller item
+-- what it has now it had when its journal had all its lines
+pub had_now : (b : Book) (item : Instance) → b ≡ Fold b.lines → map.get b.items item.uid ≡ Some item → WasHad b (length b.lines) item
+had_now b item fold has = (
+  omega arith,
+  subst (λ (x : Book). map.get x.items item.uid ≡ Some item) (fold ∙ ap Fold (sym (take_all (length b.lines) b.lines (omega arith)))) has,
+)
+
+-- what it had, and hasn't forgotten since, it has
+pub has_since : (b : Book) (since : ℕ) (item : Instance) → b ≡ Fold b.lines → WasHad b since item → IsThereSince b.lines item.uid since → map.get b.items item.uid ≡ Some item
+has_since b since item fold had there =
+    let is : folded (Fold (take since b.lines)) (drop since b.lines) ≡ b =
+    sym (folded_append (take since b.lines) (drop since b.lines) empty_book) ∙ (ap Fold (take-append-drop since b.lines) ∙ sym fold) in
+    subst (λ (x : Book). map.get x.items item.uid ≡ Some item) is (items_still (drop since b.lines) (Fold (take since b.lines)) item.uid item there had.1)
+
+-- a stage stays fair
+pub stage_still : (plan : Network) (old new : World) (caller receiver : Text) (stage : Stage) → WorldGrows old new →
+    IsFairStage plan old caller receiver stage → IsFairStage plan new caller receiver stage
+stage_still plan old new caller receiver Asking g h = tt
+stage_still plan old new caller receiver Rejecting g h = tt
+stage_still plan old new caller receiver Gone g h = tt
+stage_still plan old new caller receiver (Answering accepted) g h = h
+stage_still plan old new caller receiver (Open accepted) g h = h
+stage_still plan old new caller receiver (Storing accepted item since) g h =
+    (h.0, sent_still plan old new caller receiver item g h.1, had_still (old.books caller) (new.books caller) since item (g.books caller) h.2)
+stage_still plan old new caller receiver (Replying accepted item since status) g h =
+    (h.0, sent_still plan old new caller receiver item g h.1, had_still (old.books caller) (new.books caller) since item (g.books caller) h.2, h.3, λ z. (g.books receiver).took caller item (h.4 z))
 
 -- ---- one book changes
 pub book_here : (books : Text → Book) (name : Text) (b : Book) → books_with books name b name ≡ b
@@ -160,11 +183,10 @@ module _ (w : World) (name : Text) (b : Book) where
         PassesOn → GivesOn →
         ((to : Text) (item : Instance) → map.get b.rows (item.uid, to) ≡ Some Done → map.get b.items item.uid ≡ Some item →
         ((map.get (w.books name).rows (item.uid, to) ≡ Some Done) × Has w name item) ⊎ HadArrival w to name item) →
-        KeepsPending w put →
         ((line : Line) → Contains b.lines line → Contains (w.books name).lines line ⊎ IsFairLine line) →
         b ≡ Fold b.lines → ((to : Text) (item : Instance) → HasSucceededSince b.lines item to → HasSucceededSince (w.books name).lines item to ⊎ HadArrival w to name item) →
         IsSafe plan put
-    put_book news on gives dones pends fair fold successes = record {
+    put_book news on gives dones fair fold successes = record {
       folds = each_book (λ n x. x ≡ Fold x.lines) fold safe.folds;
       answered = each_book (λ n x. (to : Text) (item : Instance) → HasSucceededSince x.lines item to → HadArrival put to n item)
           (λ to item h. elim (successes to item h) [
@@ -195,21 +217,8 @@ module _ (w : World) (name : Text) (b : Book) where
             | inr a ↦ (put_grows.books to).took name item a
           ])
           (λ n to item h i. (put_grows.books to).took n item (safe.done n to item h i));
-      links = λ number link h. stage_still plan w put link.caller link.receiver link.caller_connected link.stage put_grows
-          (λ item c p had. pends number link item h c p had) (safe.links number link h);
+      links = λ number link h. stage_still plan w put link.caller link.receiver link.stage put_grows (safe.links number link h);
     }
-
-    -- where the node has all that it had, it has what it has pending
-    pub pends_by : ((item : Instance) → map.get (w.books name).items item.uid ≡ Some item → map.get b.items item.uid ≡ Some item) → KeepsPending w put
-    pends_by holds number link item at c p had = elim (same_or_not texts link.caller name) [
-      | inr f ↦ (let P : Book → Type 0 = λ x. map.get x.items item.uid ≡ Some item in subst P (sym (book_there w.books name b link.caller f)) had)
-      | inl e ↦ (
-          let P : Book → Type 0 = λ x. map.get x.items item.uid ≡ Some item in
-          let Q : Text → Type 0 = λ n. map.get (w.books n).items item.uid ≡ Some item in
-          let R : Text → Type 0 = λ n. Has put n item in
-          subst R (sym e) (subst P (sym (book_here w.books name b)) (holds item (subst Q e had)))
-          )
-    ]
 
 -- ---- a world with the same books and fair links
 pub same_grows : (old new : World) → new.books ≡ old.books → new.stood ≡ old.stood → WorldGrows old new
@@ -229,7 +238,6 @@ same_books plan old new safe same stood links =
     let F : (Text → Book) → Type 0 = λ books. (name : Text) → books name ≡ Fold (books name).lines in
     let A : (Text → Book) → Type 0 = λ books. (name to : Text) (item : Instance) → HasSucceededSince (books name).lines item to → Took (books to) name item in
     let L : (Text → Book) → Type 0 = λ books. (name : Text) (line : Line) → Contains (books name).lines line → IsFairLine line in
-    let H : (Text → Book) → Text → Instance → Type 0 = λ books caller item. map.get (books caller).items item.uid ≡ Some item in
     record {
       books = subst (λ s. P s new.books) (sym stood) (subst (P old.stood) (sym same) safe.books);
       sources = λ name caller item h. source_still plan old new caller name item g (safe.sources name caller item (subst (λ (books : Text → Book). Took (books name) caller item) same h));
@@ -239,8 +247,7 @@ same_books plan old new safe same stood links =
       sent = subst S (sym same) safe.sent;
       carried = subst (λ s. C s new.books) (sym stood) (subst (C old.stood) (sym same) safe.carried);
       done = subst D (sym same) safe.done;
-      links = λ number link h. stage_still plan old new link.caller link.receiver link.caller_connected link.stage g
-          (λ item c p had. subst (λ books. H books link.caller item) (sym same) had) (links number link h);
+      links = λ number link h. stage_still plan old new link.caller link.receiver link.stage g (links number link h);
     }
 
 pub put_link : (plan : Network) (w : World) (number : ℕ) (link : Link) → IsSafe plan w → IsFairLink plan w link → IsSafe plan (with_link w number link)

@@ -34,7 +34,7 @@ pub arrivals_spend_well : ArrivalsSpendWell
 arrivals_spend_well plan old new name caller item reply a = spent_well _ old new name a.book reply a.called
 
 pub settlings_spend_well : SettlingsSpendWell
-settlings_spend_well old new name uid dest outcome answer s = spent_well _ old new name s.book answer s.called
+settlings_spend_well old new name uid since dest outcome answer s = spent_well _ old new name s.book answer s.called
 
 pub requeuings_spend_well : RequeuingsSpendWell
 requeuings_spend_well old new name uid dest answer r = spent_well _ old new name r.book answer r.called

@@ -10,8 +10,9 @@ use Rattle.dr_ledger.specs.declared.item.Outcome.TheVariants.{Broken}
 use Rattle.dr_ledger.specs.declared.item.Progress.{Progress}
 use Rattle.dr_ledger.specs.Books.{Book, is_queued, row_after}
 use Rattle.dr_ledger.specs.Laws.{Moves}
-use Rattle.dr_ledger.specs.Replies.{Settles}
+use Rattle.dr_ledger.specs.Replies.{Settles, SettlesSince}
 use Rattle.dr_ledger.proofs.Growing.{settlings_move_a_row}
+use Rattle.dr_ledger.proofs.HandedOut.{some_settling}
 use Rattle.dr_ledger.proofs.Maps.{texts, same_or_not}
 use Rattle.dr_world_model.specs.Worlds.{World}
 use Rattle.dr_world_model.specs.Calls.{Answer, Settlement}
@@ -65,32 +66,33 @@ book_left uid dest now old new (Err fault.Conflict) s = absurd s
 book_left uid dest now old new (Err fault.NotHeld) s = absurd s
 book_left uid dest now old new (Err fault.NotOver) s = absurd s
 
-refused_same : (uid dest : Text) (now : ℕ) (old new : Book) (why : LedgerFault) → Settles uid dest Broken now old (Err why) new → new ≡ old
-refused_same uid dest now old new fault.NotWaiting s = s.1
-refused_same uid dest now old new fault.Store s = s
-refused_same uid dest now old new fault.Memory s = s
-refused_same uid dest now old new fault.NoLine s = absurd s
-refused_same uid dest now old new fault.Conflict s = absurd s
-refused_same uid dest now old new fault.NotHeld s = absurd s
-refused_same uid dest now old new fault.NotOver s = absurd s
+refused_same : (uid : Text) (since : ℕ) (dest : Text) (now : ℕ) (old new : Book) (why : LedgerFault) → SettlesSince uid since dest Broken now old (Err why) new → new ≡ old
+refused_same uid since dest now old new fault.NotWaiting s = s.1
+refused_same uid since dest now old new fault.Store s = s
+refused_same uid since dest now old new fault.Memory s = s
+refused_same uid since dest now old new fault.NoLine s = absurd s
+refused_same uid since dest now old new fault.Conflict s = absurd s
+refused_same uid since dest now old new fault.NotHeld s = absurd s
+refused_same uid since dest now old new fault.NotOver s = absurd s
 
 pub away_tries_again : AwayTriesAgain
 away_tries_again plan w v node uid dest s =
-    let t = s.1 in
-    let m = settlings_move_a_row uid dest Broken w.time (w.books node) t.book t.call in
+    let t = s.1.1 in
+    let m = settlings_move_a_row uid dest Broken w.time (w.books node) t.book (t.call.0.0, t.call.1) in
     let books : v.books node ≡ t.book = ap (λ (u : World). u.books node) t.called.is ∙ book_here w.books node t.book in
     (m.0, m.1, m.2.was, ap (λ (b : Book). map.get b.rows (uid, dest)) books ∙ (m.2.is ∙ ap Some (broken_retried m.0 w.time)))
 
 pub refused_away_is_nothing : RefusedAwayIsNothing
 refused_away_is_nothing plan w v node uid dest why s name =
-    let t = s.1 in
-    let same = refused_same uid dest w.time (w.books node) t.book why t.call in
+    let t = s.1.1 in
+    let same = refused_same uid s.1.0 dest w.time (w.books node) t.book why t.call in
     ap (λ (u : World). u.books name) t.called.is ∙ each_book w node t.book (λ n b. b ≡ w.books n) same (λ n. refl) name
 
 pub away_leaves_all_else : AwayLeavesAllElse
 away_leaves_all_else plan w v node uid dest answer s =
-    let t : Settlement w node uid dest Broken answer v = s.1 in
-    let left = book_left uid dest w.time (w.books node) t.book answer t.call in
+    let t : Settlement w node uid s.1.0 dest Broken answer v = s.1.1 in
+    let as = some_settling uid s.1.0 dest Broken w.time (w.books node) t.book answer t.call in
+    let left = book_left uid dest w.time (w.books node) t.book as.0 as.1 in
     subst (λ (u : World). AllElseStays w u node uid dest) (sym t.called.is) (record {
       items = each_book w node t.book (λ n b. b.items ≡ (w.books n).items) left.items (λ n. refl);
       arrivals = each_book w node t.book (λ n b. b.arrivals ≡ (w.books n).arrivals) left.arrivals (λ n. refl);

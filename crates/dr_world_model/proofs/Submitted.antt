@@ -16,13 +16,13 @@ use Rattle.dr_ledger.specs.declared.item.Outcome.{Outcome}
 use Rattle.dr_ledger.specs.declared.item.Outcome.TheVariants.{Status, Broken, NoContext, Unreadable}
 use Rattle.dr_ledger.specs.Books.{Book}
 use Rattle.dr_ledger.specs.Items.{instance_of}
-use Rattle.dr_ledger.specs.Replies.{Arrives, Requeues, Drops, Forgets, Settles, Reply}
+use Rattle.dr_ledger.specs.Replies.{Arrives, Requeues, Drops, Forgets, SettlesSince, Reply}
 use Rattle.dr_ledger.specs.Routings.{Routing}
 use Rattle.dr_ledger.proofs.Maps.{texts, got, filled_got}
 use Rattle.dr_ledger.proofs.Needs.{one_instance_is_one_item}
 use Rattle.dr_world_model.specs.Worlds.{World, Link, start, with_link}
 use Rattle.dr_world_model.specs.Calls.{Answer, StoreOutcome, CalledAt, Arriving, Settlement}
-use Rattle.dr_world_model.specs.Steps.{IsLink, SettlesFirst, OpensLink, pending, SettlesPending, Leaves, LeavesIfOn, LeaveAll, callers_of, Gives}
+use Rattle.dr_world_model.specs.Steps.{IsLink, SettlesFirst, OpensLink, handed_out, line_count, pending, SettlesPending, Leaves, LeavesIfOn, LeaveAll, callers_of, Gives}
 use Rattle.dr_world_model.specs.Events.{Event, Take, Ask, AgreeReceiver, AgreeCaller, Give, PassOver, Receive, Answered, BreakCaller, BreakReceiver, Close, Restart, Requeue, Drop, Forget, Refuse, StayAway, Tick, Step}
 use Rattle.dr_world_model.specs.Runs.{Adopts, Action, Occurs, Adopt, Runs}
 use Rattle.dr_world_model.specs.Unchanged.{IsSubmitted, NothingIsMadeUp, WasSubmitted, WhatIsThereIsUnchanged}
@@ -46,15 +46,15 @@ arrived_items routing caller item old new (Err fault.NotWaiting) a uid i h = abs
 arrived_items routing caller item old new (Err fault.NotHeld) a uid i h = absurd a
 arrived_items routing caller item old new (Err fault.NotOver) a uid i h = absurd a
 
-settled_items : (uid dest : Text) (outcome : Outcome) (now : ℕ) (old new : Book) (answer : Answer) → Settles uid dest outcome now old answer new → new.items ≡ old.items
-settled_items uid dest outcome now old new (Ok done) s = ap (λ (b : Book). b.items) s.1
-settled_items uid dest outcome now old new (Err fault.NotWaiting) s = ap (λ (b : Book). b.items) s.1
-settled_items uid dest outcome now old new (Err fault.Store) s = ap (λ (b : Book). b.items) s
-settled_items uid dest outcome now old new (Err fault.Memory) s = ap (λ (b : Book). b.items) s
-settled_items uid dest outcome now old new (Err fault.NoLine) s = absurd s
-settled_items uid dest outcome now old new (Err fault.Conflict) s = absurd s
-settled_items uid dest outcome now old new (Err fault.NotHeld) s = absurd s
-settled_items uid dest outcome now old new (Err fault.NotOver) s = absurd s
+settled_items : (uid : Text) (since : ℕ) (dest : Text) (outcome : Outcome) (now : ℕ) (old new : Book) (answer : Answer) → SettlesSince uid since dest outcome now old answer new → new.items ≡ old.items
+settled_items uid since dest outcome now old new (Ok done) s = ap (λ (b : Book). b.items) s.1
+settled_items uid since dest outcome now old new (Err fault.NotWaiting) s = ap (λ (b : Book). b.items) s.1
+settled_items uid since dest outcome now old new (Err fault.Store) s = ap (λ (b : Book). b.items) s
+settled_items uid since dest outcome now old new (Err fault.Memory) s = ap (λ (b : Book). b.items) s
+settled_items uid since dest outcome now old new (Err fault.NoLine) s = absurd s
+settled_items uid since dest outcome now old new (Err fault.Conflict) s = absurd s
+settled_items uid since dest outcome now old new (Err fault.NotHeld) s = absurd s
+settled_items uid since dest outcome now old new (Err fault.NotOver) s = absurd s
 
 requeued_items : (uid dest : Text) (old new : Book) (answer : Answer) → Requeues uid dest old answer new → new.items ≡ old.items
 requeued_items uid dest old new (Ok done) r = ap (λ (b : Book). b.items) r.1
@@ -110,12 +110,12 @@ module _ (T : Instance → Type 0) where
         | inr is ↦ subst T (sym is) t
       ]) k
 
-  settling : (w v : World) (name uid dest : Text) (outcome : Outcome) (answer : Answer) → Settlement w name uid dest outcome answer v → Known w → Known v
-  settling w v name uid dest outcome answer s k =
-      called _ w v name _ s.book s.called (λ u i h. k.0 name u i (ap (λ (items : FinMap text_cmp Instance). map.get items u) (sym (settled_items uid dest outcome w.time (w.books name) s.book answer s.call)) ∙ h)) k
+  settling : (w v : World) (name uid : Text) (since : ℕ) (dest : Text) (outcome : Outcome) (answer : Answer) → Settlement w name uid since dest outcome answer v → Known w → Known v
+  settling w v name uid since dest outcome answer s k =
+      called _ w v name _ s.book s.called (λ u i h. k.0 name u i (ap (λ (items : FinMap text_cmp Instance). map.get items u) (sym (settled_items uid since dest outcome w.time (w.books name) s.book answer s.call)) ∙ h)) k
 
-  settled_link : (w v : World) (name uid dest : Text) (outcome : Outcome) (answer : Answer) → Settlement w name uid dest outcome answer v → (number : ℕ) (link : Link) → IsLink w number link → IsLink v number link
-  settled_link w v name uid dest outcome answer s number link at = ap (λ (u : World). map.get u.links number) s.called.is ∙ at
+  settled_link : (w v : World) (name uid : Text) (since : ℕ) (dest : Text) (outcome : Outcome) (answer : Answer) → Settlement w name uid since dest outcome answer v → (number : ℕ) (link : Link) → IsLink w number link → IsLink v number link
+  settled_link w v name uid since dest outcome answer s number link at = ap (λ (u : World). map.get u.links number) s.called.is ∙ at
 
   linked : (w v : World) (number : ℕ) (is : Link) → v ≡ with_link w number is → OnLink is → Known w → Known v
   linked w v number is e on k = subst Known (sym e) (
@@ -129,18 +129,18 @@ module _ (T : Instance → Type 0) where
   abbrev Left : World → ℕ → Link → Type 0
   Left v number link = Known v × IsLink v number link
 
-  by_settling : (w v : World) (name uid dest : Text) (outcome : Outcome) (answer : Answer) (number : ℕ) (link : Link) → Settlement w name uid dest outcome answer v → IsLink w number link → Known w → Left v number link
-  by_settling w v name uid dest outcome answer number link s at k = (settling w v name uid dest outcome answer s k, settled_link w v name uid dest outcome answer s number link at)
+  by_settling : (w v : World) (name uid : Text) (since : ℕ) (dest : Text) (outcome : Outcome) (answer : Answer) (number : ℕ) (link : Link) → Settlement w name uid since dest outcome answer v → IsLink w number link → Known w → Left v number link
+  by_settling w v name uid since dest outcome answer number link s at k = (settling w v name uid since dest outcome answer s k, settled_link w v name uid since dest outcome answer s number link at)
 
   as_it_was : (w v : World) (number : ℕ) (link : Link) → v ≡ w → IsLink w number link → Known w → Left v number link
   as_it_was w v number link e at k = (subst Known (sym e) k, ap (λ (u : World). map.get u.links number) e ∙ at)
 
   first_left : (w v : World) (number : ℕ) (link : Link) (answer : Option Answer) → SettlesFirst w link answer v → IsLink w number link → Known w → Left v number link
   first_left w v number link None s at k = as_it_was w v number link s.1 at k
-  first_left w v number link (Some answer) s at k = by_settling w v link.caller s.0.uid link.receiver Broken answer number link s.2 at k
+  first_left w v number link (Some answer) s at k = by_settling w v link.caller s.0.uid (line_count w link.caller) link.receiver Broken answer number link s.2 at k
 
   pending_left : (w v : World) (number : ℕ) (link : Link) (item : Option Instance) (answer : Option Answer) → SettlesPending w link item answer v → IsLink w number link → Known w → Left v number link
-  pending_left w v number link (Some item) (Some answer) s at k = by_settling w v link.caller item.uid link.receiver Broken answer number link s at k
+  pending_left w v number link (Some item) (Some answer) s at k = by_settling w v link.caller item.uid (handed_out link.stage) link.receiver Broken answer number link s at k
   pending_left w v number link None None s at k = as_it_was w v number link s at k
   pending_left w v number link (Some item) None s at k = absurd s
   pending_left w v number link None (Some answer) s at k = absurd s
@@ -161,7 +161,7 @@ module _ (T : Instance → Type 0) where
     where
       some_is : (a b : Instance) → Some a ≡ Some b → a ≡ b
       some_is a b e = cc
-  gives w v number (Some answer) s k = emptied s.then.1.0 v number _ s.then.1.2 refl (settling w s.then.1.0 s.link.caller s.item.uid s.link.receiver NoContext answer s.then.1.1 k)
+  gives w v number (Some answer) s k = emptied s.then.1.0 v number _ s.then.1.2 refl (settling w s.then.1.0 s.link.caller s.item.uid (line_count w s.link.caller) s.link.receiver NoContext answer s.then.1.1 k)
 
   leaves : (w v : World) (number : ℕ) (answer : Option Answer) → Leaves w number answer v → Known w → Known v
   leaves w v number answer s k = as_before s.mid v number s.link _ s.is refl (pending_left w s.mid number s.link (pending s.link.stage) answer s.broken s.at k)
@@ -203,9 +203,9 @@ module _ (T : Instance → Type 0) where
       some_is : (a b : Instance) → Some a ≡ Some b → a ≡ b
       some_is a b e = cc
   step_known plan w (PassOver number answer) v s t k =
-      as_before s.mid v number s.link _ s.is refl (by_settling w s.mid s.link.caller s.item.uid s.link.receiver Unreadable answer number s.link s.call s.at k)
+      as_before s.mid v number s.link _ s.is refl (by_settling w s.mid s.link.caller s.item.uid (line_count w s.link.caller) s.link.receiver Unreadable answer number s.link s.call s.at k)
   step_known plan w (Answered number answer) v s t k =
-      emptied s.mid v number _ s.is refl (settling w s.mid s.link.caller s.item.uid s.link.receiver (Status s.status) answer s.call k)
+      emptied s.mid v number _ s.is refl (settling w s.mid s.link.caller s.item.uid s.since s.link.receiver (Status s.status) answer s.call k)
   step_known plan w (BreakCaller number answer) v s t k = leaves w v number answer s k
   step_known plan w (BreakReceiver number) v s t k = as_before w v number s.link _ s.is refl (k, s.at)
   step_known plan w (Close number answer) v s t k = emptied s.mid v number _ s.is refl (left_if_on w s.mid number s.link answer s.left k)
@@ -216,9 +216,9 @@ module _ (T : Instance → Type 0) where
       called _ w v node _ s.1.book s.1.called (λ u i h. k.0 node u i (ap (λ (items : FinMap text_cmp Instance). map.get items u) (sym (requeued_items uid dest (w.books node) s.1.book answer s.1.call)) ∙ h)) k
   step_known plan w (Drop node uid dest answer) v s t k =
       called _ w v node _ s.1.book s.1.called (λ u i h. k.0 node u i (ap (λ (items : FinMap text_cmp Instance). map.get items u) (sym (dropped_items uid dest w.time (w.books node) s.1.book answer s.1.call)) ∙ h)) k
-  step_known plan w (StayAway node uid dest answer) v s t k = settling w v node uid dest Broken answer s.1 k
+  step_known plan w (StayAway node uid dest answer) v s t k = settling w v node uid s.1.0 dest Broken answer s.1.1 k
   step_known plan w (Forget node uid answer) v s t k =
-      called _ w v node _ s.2.book s.2.called (λ u i h. k.0 node u i (forgotten_items uid (w.books node) s.2.book answer s.2.call u i h)) k
+      called _ w v node _ s.1.book s.1.called (λ u i h. k.0 node u i (forgotten_items uid (w.books node) s.1.book answer s.1.call u i h)) k
   step_known plan w (Refuse node) v s t k = subst Known (sym s.1) k
   step_known plan w (Tick ms) v s t k = subst Known (sym s) k
 

@@ -15,7 +15,7 @@ use Rattle.dr_ledger.specs.declared.item.Progress.TheVariants.{Waiting, Held}
 use Rattle.dr_ledger.specs.Books.{Book, empty_book}
 use Rattle.dr_ledger.specs.Pairs.{pair_cmp}
 use Rattle.dr_ledger.specs.PlanRoutes.{plan_routing}
-use Rattle.dr_ledger.specs.Replies.{Arrives, Drops, Forgets, IsHeld, IsOver, IsWaiting, Requeues, Settles, Reply}
+use Rattle.dr_ledger.specs.Replies.{Arrives, Drops, Forgets, IsHeld, IsOver, IsWaiting, Requeues, SettlesSince, Reply}
 use Rattle.dr_world_model.specs.Worlds.{World, start}
 use Rattle.dr_world_model.specs.Calls.{Answer, CalledAt, StoreOutcome}
 use Rattle.dr_world_model.specs.Events.{HasNode}
@@ -50,15 +50,15 @@ module _ (plan : Network) (formed : IsWellFormed plan) where
   arrived_empty name caller item old new (Err fault.NotHeld) stranger e a = absurd a
   arrived_empty name caller item old new (Err fault.NotOver) stranger e a = absurd a
 
-  settled_empty : (uid dest : Text) (outcome : Outcome) (now : ℕ) (old new : Book) (answer : Answer) → old ≡ empty_book → Settles uid dest outcome now old answer new → new ≡ empty_book
-  settled_empty uid dest outcome now old new (Ok done) e s = absurd (none_waits uid dest old e s.0)
-  settled_empty uid dest outcome now old new (Err fault.NotWaiting) e s = s.1 ∙ e
-  settled_empty uid dest outcome now old new (Err fault.Store) e s = s ∙ e
-  settled_empty uid dest outcome now old new (Err fault.Memory) e s = s ∙ e
-  settled_empty uid dest outcome now old new (Err fault.NoLine) e s = absurd s
-  settled_empty uid dest outcome now old new (Err fault.Conflict) e s = absurd s
-  settled_empty uid dest outcome now old new (Err fault.NotHeld) e s = absurd s
-  settled_empty uid dest outcome now old new (Err fault.NotOver) e s = absurd s
+  settled_empty : (uid : Text) (since : ℕ) (dest : Text) (outcome : Outcome) (now : ℕ) (old new : Book) (answer : Answer) → old ≡ empty_book → SettlesSince uid since dest outcome now old answer new → new ≡ empty_book
+  settled_empty uid since dest outcome now old new (Ok done) e s = absurd (none_waits uid dest old e s.0.0)
+  settled_empty uid since dest outcome now old new (Err fault.NotWaiting) e s = s.1 ∙ e
+  settled_empty uid since dest outcome now old new (Err fault.Store) e s = s ∙ e
+  settled_empty uid since dest outcome now old new (Err fault.Memory) e s = s ∙ e
+  settled_empty uid since dest outcome now old new (Err fault.NoLine) e s = absurd s
+  settled_empty uid since dest outcome now old new (Err fault.Conflict) e s = absurd s
+  settled_empty uid since dest outcome now old new (Err fault.NotHeld) e s = absurd s
+  settled_empty uid since dest outcome now old new (Err fault.NotOver) e s = absurd s
 
   requeued_empty : (uid dest : Text) (old new : Book) (answer : Answer) → old ≡ empty_book → Requeues uid dest old answer new → new ≡ empty_book
   requeued_empty uid dest old new (Ok done) e r = absurd (none_held uid dest old e r.0)
@@ -101,8 +101,8 @@ module _ (plan : Network) (formed : IsWellFormed plan) where
   empty_closed = record {
     arriving = λ w v name caller item reply a p.
         called_empty _ w v name _ a.book a.called (λ stranger. arrived_empty name caller item (w.books name) a.book reply stranger (p name stranger) a.call) p;
-    settling = λ w v name uid dest outcome answer s p.
-        called_empty _ w v name _ s.book s.called (λ stranger. settled_empty uid dest outcome w.time (w.books name) s.book answer (p name stranger) s.call) p;
+    settling = λ w v name uid since dest outcome answer s p.
+        called_empty _ w v name _ s.book s.called (λ stranger. settled_empty uid since dest outcome w.time (w.books name) s.book answer (p name stranger) s.call) p;
     requeueing = λ w v name uid dest answer r p.
         called_empty _ w v name _ r.book r.called (λ stranger. requeued_empty uid dest (w.books name) r.book answer (p name stranger) r.call) p;
     giving_up = λ w v name uid dest answer d p.

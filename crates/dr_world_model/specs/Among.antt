@@ -111,7 +111,7 @@ pub record OtherAgrees (ours : Ours) (plan : Network) (old : World) (number : �
   pub offered : EachAccepted answer (λ pair. GoesOver plan link.caller link.receiver pair)
   pub is : new ≡ with_link old number (answered_link link answer)
 
--- another product stores an instance
+-- another product stores an instance; it has no book
 pub record OtherStores (ours : Ours) (old : World) (number : ℕ) (item : Instance)
     (new : World) : Type 0 where
   pub link : Link
@@ -121,18 +121,19 @@ pub record OtherStores (ours : Ours) (old : World) (number : ℕ) (item : Instan
   pub stage : link.stage ≡ Open accepted
   pub other : ours link.caller ≡ false
   pub pair : set.contains accepted (item.key.class, item.key.syntax) ≡ true
-  pub is : new ≡ with_link old number (at_stage link (Storing accepted item))
+  pub is : new ≡ with_link old number (at_stage link (Storing accepted item 0))
 
 -- another product answers a store
 pub record OtherReplies (ours : Ours) (old : World) (number status : ℕ) (new : World) : Type 0 where
   pub link : Link
   pub accepted : Contexts
   pub item : Instance
+  pub since : ℕ
   pub at : IsLink old number link
   pub on : link.receiver_connected ≡ true
-  pub stage : link.stage ≡ Storing accepted item
+  pub stage : link.stage ≡ Storing accepted item since
   pub other : ours link.receiver ≡ false
-  pub is : new ≡ with_link old number (at_stage link (Replying accepted item status))
+  pub is : new ≡ with_link old number (at_stage link (Replying accepted item since status))
 
 -- the doing leads from the one world to the other; nobody else calls himself by the name of one of
 -- ours
@@ -246,10 +247,10 @@ WithinRankAmong ours plan w =
 --    means that it had it, and so does each success
 -- of the journal; a done row to another product that this one answered with success.
 pub record IsHonestAmong (ours : Ours) (plan : Network) (w : World) : Type 0 where
-  pub replies : (number : ℕ) (link : Link) (accepted : Contexts) (item : Instance)
+  pub replies : (number : ℕ) (link : Link) (accepted : Contexts) (item : Instance) (since : ℕ)
       → IsLink w number link
       → ours link.receiver ≡ true
-      → link.stage ≡ Replying accepted item 0
+      → link.stage ≡ Replying accepted item since 0
       → HadArrival w link.receiver link.caller item
   pub done : (name to : Text) (item : Instance)
       → ours to ≡ true
@@ -429,10 +430,11 @@ pub record OthersDoAsTheyWant (ours : Ours) (plan : Network) (w : World) : Type 
       → ours link.caller ≡ false
       → set.contains accepted (item.key.class, item.key.syntax) ≡ true
       → CanDo ours plan w (Stores number item)
-  pub replies : (number : ℕ) (link : Link) (accepted : Contexts) (item : Instance) (status : ℕ)
+  pub replies :
+      (number : ℕ) (link : Link) (accepted : Contexts) (item : Instance) (since status : ℕ)
       → IsLink w number link
       → link.receiver_connected ≡ true
-      → link.stage ≡ Storing accepted item
+      → link.stage ≡ Storing accepted item since
       → ours link.receiver ≡ false
       → CanDo ours plan w (Replies number status)
 

@@ -1,6 +1,6 @@
 -- The calls of a node's book in the message world, their replies, and stores that are told to
 -- refuse.
-use Rattle.std.specs.Prelude.{◌≡◌, ◌⊎◌, true, false, Result, Ok, Err}
+use Rattle.std.specs.Prelude.{◌≡◌, ◌⊎◌, ℕ, true, false, Result, Ok, Err}
 use Rattle.std.specs.FinSet as set
 use Rattle.std.specs.FinSet.{FinSet}
 use Rattle.dr_base.specs.Texts.{Text, text_cmp}
@@ -11,8 +11,8 @@ use Rattle.dr_ledger.specs.declared.fault.LedgerFault.TheVariants as fault
 use Rattle.dr_ledger.specs.declared.item.Outcome.{Outcome}
 use Rattle.dr_ledger.specs.Books.{Book}
 use Rattle.dr_ledger.specs.PlanRoutes.{plan_routing}
-use Rattle.dr_ledger.specs.Replies.{IsAdmitted, IsWaiting, IsHeld, IsOver, Arrives, Settles, Reply}
-use Rattle.dr_ledger.specs.Replies.{Requeues, Drops, Forgets}
+use Rattle.dr_ledger.specs.Replies.{IsAdmitted, IsWaitingSince, IsHeld, IsOver, Arrives, Reply}
+use Rattle.dr_ledger.specs.Replies.{SettlesSince, Requeues, Drops, Forgets}
 use Rattle.dr_world_model.specs.Worlds.{World, with_book, with_armed}
 
 -- what `settle`, `requeue`, `drop` and `forget` answer in the message world
@@ -61,13 +61,14 @@ pub record Arriving (plan : Network) (old : World) (name caller : Text) (item : 
   pub called : CalledAt (IsAdmitted (plan_routing plan name) caller item (old.books name)) old name
       (store_outcome_of reply) book new
 
--- the node settles the row of the instance and the destination
-pub record Settlement (old : World) (name uid dest : Text) (outcome : Outcome) (answer : Answer)
-    (new : World) : Type 0 where
+-- the node settles the row of the instance and the destination, which was handed out when its
+-- journal had so many lines
+pub record Settlement (old : World) (name uid : Text) (since : ℕ) (dest : Text) (outcome : Outcome)
+    (answer : Answer) (new : World) : Type 0 where
   pub book : Book
-  pub call : Settles uid dest outcome old.time (old.books name) answer book
-  pub called :
-      CalledAt (IsWaiting (old.books name) uid dest) old name (store_outcome_of answer) book new
+  pub call : SettlesSince uid since dest outcome old.time (old.books name) answer book
+  pub called : CalledAt (IsWaitingSince (old.books name) uid since dest) old name
+      (store_outcome_of answer) book new
 
 -- the node puts the held row back
 pub record Requeueing (old : World) (name uid dest : Text) (answer : Answer)

@@ -94,8 +94,8 @@ IsOpen (Answering accepted) pairs = ⊥
 IsOpen Rejecting pairs = ⊥
 IsOpen Gone pairs = ⊥
 IsOpen (Open accepted) pairs = accepted ≡ pairs
-IsOpen (Storing accepted item) pairs = accepted ≡ pairs
-IsOpen (Replying accepted item status) pairs = accepted ≡ pairs
+IsOpen (Storing accepted item since) pairs = accepted ≡ pairs
+IsOpen (Replying accepted item since status) pairs = accepted ≡ pairs
 
 -- No line settles for want of a context, and over each open link all that goes over its hop was
 -- accepted.
@@ -139,9 +139,9 @@ WithinRank plan w =
 -- it, the same of each success that a journal notes under the plan in force, whether or not its row
 -- is still there; and each row has a reason.
 pub record IsHonest (plan : Network) (w : World) : Type 0 where
-  pub replies : (number : ℕ) (link : Link) (accepted : Contexts) (item : Instance)
+  pub replies : (number : ℕ) (link : Link) (accepted : Contexts) (item : Instance) (since : ℕ)
       → IsLink w number link
-      → link.stage ≡ Replying accepted item 0
+      → link.stage ≡ Replying accepted item since 0
       → HadArrival w link.receiver link.caller item
   pub done : (name to : Text) (item : Instance)
       → HasRow w name item.uid to Done

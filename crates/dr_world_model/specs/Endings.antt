@@ -15,8 +15,9 @@ use Rattle.dr_world_model.specs.Claims.{HasRow}
 -- the instance is under way on the link, or its response is
 abbrev pub IsUnderWay : Stage → Instance → Type 0
 IsUnderWay stage item =
-    ((accepted : Contexts) × (stage ≡ Storing accepted item))
-    ⊎ ((accepted : Contexts) × (status : ℕ) × (stage ≡ Replying accepted item status))
+    ((accepted : Contexts) × (since : ℕ) × (stage ≡ Storing accepted item since))
+    ⊎ ((accepted : Contexts) × (since : ℕ) × (status : ℕ)
+    × (stage ≡ Replying accepted item since status))
 
 -- Where a caller leaves, what was under way is to be tried again, later.
 abbrev pub LeavingTriesAgain : Type 0

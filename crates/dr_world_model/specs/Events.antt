@@ -13,7 +13,7 @@ use Rattle.dr_world_model.specs.Calls.{Answer, Arriving, Requeueing, GivingUp, L
 use Rattle.dr_ledger.specs.Replies.{Reply}
 use Rattle.dr_world_model.specs.Steps.{IsHop, asked, AnswersRequest, ReadsAnswer, Gives, Receives}
 use Rattle.dr_world_model.specs.Steps.{ReadsReply, Leaves, ReceiverDrops, Closes, Restarts}
-use Rattle.dr_world_model.specs.Steps.{NoneIsPending, PassesOver, StaysAway, passed}
+use Rattle.dr_world_model.specs.Steps.{PassesOver, StaysAway, passed}
 
 -- `None` in place of an answer: nothing was settled.
 pub data Event : Type 0 where
@@ -71,7 +71,7 @@ Step plan old (Drop node uid dest answer) new =
 Step plan old (StayAway node uid dest answer) new =
     HasNode plan node × StaysAway old node uid dest answer new
 Step plan old (Forget node uid answer) new =
-    HasNode plan node × NoneIsPending old node uid × LettingGo old node uid answer new
+    HasNode plan node × LettingGo old node uid answer new
 Step plan old (Refuse node) new =
     HasNode plan node × (new ≡ with_armed old (set.insert old.armed node))
 Step plan old (Tick ms) new = new ≡ passed old ms

@@ -97,7 +97,7 @@ answered_for_nothing name to item = only name (record {
 -- against claim 3: success is under way on a link, and its receiver has no arrival
 abbrev pub success_for_nothing : Text → Text → Instance → World
 success_for_nothing caller receiver item =
-    with_link start 1 (link_at caller receiver (Replying set.empty item 0))
+    with_link start 1 (link_at caller receiver (Replying set.empty item 0 0))
 
 -- a book that has an item under a uid, a row for it that waits, and no line
 abbrev pub queued_unsaid : Text → Text → Instance → Book

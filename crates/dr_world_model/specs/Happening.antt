@@ -11,12 +11,12 @@ use Rattle.dr_ledger.specs.declared.item.Arrived.TheVariants.{New, Again}
 use Rattle.dr_ledger.specs.declared.item.Instance.{Instance}
 use Rattle.dr_ledger.specs.declared.item.Progress.TheVariants.{Waiting}
 use Rattle.dr_ledger.specs.PlanRoutes.{plan_routing}
-use Rattle.dr_ledger.specs.Replies.{HasConflict, IsAdmitted, IsWaiting, IsHeld, IsNext, IsOver}
+use Rattle.dr_ledger.specs.Replies.{HasConflict, IsAdmitted, IsHeld, IsNext, IsOver, IsWaiting}
+use Rattle.dr_ledger.specs.Replies.{IsWaitingSince}
 use Rattle.dr_world_model.specs.Worlds.{World, Link, Contexts, Asking, Answering, Rejecting, Open}
 use Rattle.dr_world_model.specs.Worlds.{Storing, Replying, start}
 use Rattle.dr_world_model.specs.Calls.{Answer}
-use Rattle.dr_world_model.specs.Steps.{IsHop, IsLink, AcceptsOffered, NoneIsPending, others}
-use Rattle.dr_world_model.specs.Steps.{pending}
+use Rattle.dr_world_model.specs.Steps.{IsHop, IsLink, AcceptsOffered, handed_out, others, pending}
 use Rattle.dr_world_model.specs.Events.{Event, Take, Ask, AgreeReceiver, AgreeCaller, Give, Receive}
 use Rattle.dr_world_model.specs.Events.{Answered, BreakCaller, BreakReceiver, Close, PassOver}
 use Rattle.dr_world_model.specs.Events.{Restart}
@@ -119,55 +119,61 @@ pub record StoresHappen (plan : Network) (w : World) : Type 0 where
       → IsNext (w.books link.caller) link.receiver w.time item
       → Writes w link.caller
       → CanHappen plan w (PassOver number (Ok tt))
-  pub receive : (number : ℕ) (link : Link) (accepted : Contexts) (item : Instance)
+  pub receive : (number : ℕ) (link : Link) (accepted : Contexts) (item : Instance) (since : ℕ)
       → IsReceivers w number link
-      → link.stage ≡ Storing accepted item
+      → link.stage ≡ Storing accepted item since
       → Writes w link.receiver
       → IsAdmitted (plan_routing plan link.receiver) link.caller item (w.books link.receiver)
       → set.contains (w.books link.receiver).arrivals (link.caller, item.uid) ≡ false
       → CanHappen plan w (Receive number (Ok New))
-  pub received_again : (number : ℕ) (link : Link) (accepted : Contexts) (item : Instance)
+  pub received_again :
+      (number : ℕ) (link : Link) (accepted : Contexts) (item : Instance) (since : ℕ)
       → IsReceivers w number link
-      → link.stage ≡ Storing accepted item
+      → link.stage ≡ Storing accepted item since
       → Writes w link.receiver
       → IsAdmitted (plan_routing plan link.receiver) link.caller item (w.books link.receiver)
       → set.contains (w.books link.receiver).arrivals (link.caller, item.uid) ≡ true
       → CanHappen plan w (Receive number (Ok Again))
-  pub received_no_line : (number : ℕ) (link : Link) (accepted : Contexts) (item : Instance)
+  pub received_no_line :
+      (number : ℕ) (link : Link) (accepted : Contexts) (item : Instance) (since : ℕ)
       → IsReceivers w number link
-      → link.stage ≡ Storing accepted item
+      → link.stage ≡ Storing accepted item since
       → (IsReached plan item.key link.caller link.receiver → ⊥)
       → CanHappen plan w (Receive number (Err fault.NoLine))
-  pub received_conflict : (number : ℕ) (link : Link) (accepted : Contexts) (item : Instance)
+  pub received_conflict :
+      (number : ℕ) (link : Link) (accepted : Contexts) (item : Instance) (since : ℕ)
       → IsReceivers w number link
-      → link.stage ≡ Storing accepted item
+      → link.stage ≡ Storing accepted item since
       → IsReached plan item.key link.caller link.receiver
       → HasConflict (w.books link.receiver) item
       → CanHappen plan w (Receive number (Err fault.Conflict))
-  pub received_store : (number : ℕ) (link : Link) (accepted : Contexts) (item : Instance)
+  pub received_store :
+      (number : ℕ) (link : Link) (accepted : Contexts) (item : Instance) (since : ℕ)
       → IsReceivers w number link
-      → link.stage ≡ Storing accepted item
+      → link.stage ≡ Storing accepted item since
       → IsReached plan item.key link.caller link.receiver
       → CanHappen plan w (Receive number (Err fault.Store))
-  pub answered : (number : ℕ) (link : Link) (accepted : Contexts) (item : Instance) (status : ℕ)
+  pub answered :
+      (number : ℕ) (link : Link) (accepted : Contexts) (item : Instance) (since status : ℕ)
       → IsCallers w number link
-      → link.stage ≡ Replying accepted item status
+      → link.stage ≡ Replying accepted item since status
       → Writes w link.caller
-      → IsWaiting (w.books link.caller) item.uid link.receiver
+      → IsWaitingSince (w.books link.caller) item.uid since link.receiver
       → CanHappen plan w (Answered number (Ok tt))
   pub settled_before :
-      (number : ℕ) (link : Link) (accepted : Contexts) (item : Instance) (status : ℕ)
+      (number : ℕ) (link : Link) (accepted : Contexts) (item : Instance) (since status : ℕ)
       → IsCallers w number link
-      → link.stage ≡ Replying accepted item status
-      → (IsWaiting (w.books link.caller) item.uid link.receiver → ⊥)
+      → link.stage ≡ Replying accepted item since status
+      → (IsWaitingSince (w.books link.caller) item.uid since link.receiver → ⊥)
       → CanHappen plan w (Answered number (Err fault.NotWaiting))
 
 -- a store that fails can refuse what is to be written of a reply, of a caller that leaves or stays
 -- away, of a held row, and of what is forgotten
 pub record RefusalsHappen (plan : Network) (w : World) : Type 0 where
-  pub answered : (number : ℕ) (link : Link) (accepted : Contexts) (item : Instance) (status : ℕ)
+  pub answered :
+      (number : ℕ) (link : Link) (accepted : Contexts) (item : Instance) (since status : ℕ)
       → IsCallers w number link
-      → link.stage ≡ Replying accepted item status
+      → link.stage ≡ Replying accepted item since status
       → CanHappen plan w (Answered number (Err fault.Store))
   pub caller : (number : ℕ) (link : Link) (item : Instance)
       → IsCallers w number link
@@ -184,7 +190,7 @@ pub record RefusalsHappen (plan : Network) (w : World) : Type 0 where
       → CanHappen plan w (Requeue node uid dest (Err fault.Store))
   pub drop : (node uid dest : Text) → HasNode plan node
       → CanHappen plan w (Drop node uid dest (Err fault.Store))
-  pub forget : (node uid : Text) → HasNode plan node → NoneIsPending w node uid
+  pub forget : (node uid : Text) → HasNode plan node
       → CanHappen plan w (Forget node uid (Err fault.Store))
 
 -- links end, callers stay away, held rows are put back or given up, what is over is forgotten,
@@ -198,7 +204,7 @@ pub record EndingsHappen (plan : Network) (w : World) : Type 0 where
       → IsCallers w number link
       → pending link.stage ≡ Some item
       → Writes w link.caller
-      → IsWaiting (w.books link.caller) item.uid link.receiver
+      → IsWaitingSince (w.books link.caller) item.uid (handed_out link.stage) link.receiver
       → CanHappen plan w (BreakCaller number (Some (Ok tt)))
   pub receiver : (number : ℕ) (link : Link)
       → IsReceivers w number link
@@ -215,7 +221,7 @@ pub record EndingsHappen (plan : Network) (w : World) : Type 0 where
       → IsCallers w number link
       → pending link.stage ≡ Some item
       → Writes w link.caller
-      → IsWaiting (w.books link.caller) item.uid link.receiver
+      → IsWaitingSince (w.books link.caller) item.uid (handed_out link.stage) link.receiver
       → CanHappen plan w (Close number (Some (Ok tt)))
   pub away : (node uid dest : Text) → HasNode plan node → Writes w node
       → IsWaiting (w.books node) uid dest
@@ -235,10 +241,10 @@ pub record EndingsHappen (plan : Network) (w : World) : Type 0 where
   pub drop_not_held : (node uid dest : Text) → HasNode plan node
       → (IsHeld (w.books node) uid dest → ⊥)
       → CanHappen plan w (Drop node uid dest (Err fault.NotHeld))
-  pub forget : (node uid : Text) → HasNode plan node → Writes w node → NoneIsPending w node uid
+  pub forget : (node uid : Text) → HasNode plan node → Writes w node
       → IsOver (w.books node) uid
       → CanHappen plan w (Forget node uid (Ok tt))
-  pub forget_not_over : (node uid : Text) → HasNode plan node → NoneIsPending w node uid
+  pub forget_not_over : (node uid : Text) → HasNode plan node
       → (IsOver (w.books node) uid → ⊥)
       → CanHappen plan w (Forget node uid (Err fault.NotOver))
   pub refuse : (node : Text) → HasNode plan node → CanHappen plan w (Refuse node)

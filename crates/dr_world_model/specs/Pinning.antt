@@ -114,9 +114,10 @@ AgreeingIsByCount =
 pub data IsAccepted : Stage → Type 0 where
   answering : (accepted : Contexts) → IsAccepted (Answering accepted)
   opened : (accepted : Contexts) → IsAccepted (Open accepted)
-  storing : (accepted : Contexts) (item : Instance) → IsAccepted (Storing accepted item)
-  replying : (accepted : Contexts) (item : Instance) (status : ℕ)
-      → IsAccepted (Replying accepted item status)
+  storing : (accepted : Contexts) (item : Instance) (since : ℕ)
+      → IsAccepted (Storing accepted item since)
+  replying : (accepted : Contexts) (item : Instance) (since status : ℕ)
+      → IsAccepted (Replying accepted item since status)
 
 -- The associations are counted which the node accepted and hasn't left, but not the one that asks;
 -- each once.
@@ -136,8 +137,9 @@ abbrev pub ReceivedIsReplied : Type 0
 ReceivedIsReplied =
     (plan : Network) (w v : World) (number : ℕ) (reply : Reply)
     → Receives plan w number reply v
-    → (link : Link) × (accepted : Contexts) × (item : Instance) × IsLink v number link
-    × (link.stage ≡ Replying accepted item (store_status reply))
+    → (link : Link) × (accepted : Contexts) × (item : Instance) × (since : ℕ)
+    × IsLink v number link
+    × (link.stage ≡ Replying accepted item since (store_status reply))
 
 -- After a reply was read and its row was settled the link is open again, and its caller on.
 abbrev pub AnsweredIsOpen : Type 0

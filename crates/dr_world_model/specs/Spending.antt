@@ -1,5 +1,5 @@
 -- Stores that are told to refuse: when a node stays armed, and when not.
-use Rattle.std.specs.Prelude.{◌≡◌, ◌≢◌, ◌⊎◌, false, Result, Ok, Err}
+use Rattle.std.specs.Prelude.{◌≡◌, ◌≢◌, ◌⊎◌, ℕ, false, Result, Ok, Err}
 use Rattle.std.specs.FinSet as set
 use Rattle.dr_base.specs.Texts.{Text}
 use Rattle.dr_plan_model.specs.Networks.{Network}
@@ -8,7 +8,7 @@ use Rattle.dr_ledger.specs.declared.fault.LedgerFault.TheVariants as fault
 use Rattle.dr_ledger.specs.declared.item.Instance.{Instance}
 use Rattle.dr_ledger.specs.declared.item.Outcome.{Outcome}
 use Rattle.dr_ledger.specs.PlanRoutes.{plan_routing}
-use Rattle.dr_ledger.specs.Replies.{IsAdmitted, IsWaiting, IsHeld, IsOver, Reply}
+use Rattle.dr_ledger.specs.Replies.{IsAdmitted, IsWaitingSince, IsHeld, IsOver, Reply}
 use Rattle.dr_world_model.specs.Worlds.{World}
 use Rattle.dr_world_model.specs.Calls.{Answer, Arriving, Settlement, Requeueing}
 use Rattle.dr_world_model.specs.Calls.{GivingUp, LettingGo}
@@ -32,9 +32,10 @@ ArrivalsSpendWell =
 -- a settling spends a refusal only where the store fails and the settling would have added a line
 abbrev pub SettlingsSpendWell : Type 0
 SettlingsSpendWell =
-    (old new : World) (name uid dest : Text) (outcome : Outcome) (answer : Answer)
-    → Settlement old name uid dest outcome answer new
-    → IsSpentWell (IsWaiting (old.books name) uid dest) old name answer new
+    (old new : World) (name uid : Text) (since : ℕ) (dest : Text) (outcome : Outcome)
+    (answer : Answer)
+    → Settlement old name uid since dest outcome answer new
+    → IsSpentWell (IsWaitingSince (old.books name) uid since dest) old name answer new
 
 -- a requeuing spends a refusal only where the store fails and the requeuing would have added a line
 abbrev pub RequeuingsSpendWell : Type 0

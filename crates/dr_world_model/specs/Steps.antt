@@ -1,5 +1,5 @@
 -- What each event does to the message world, as relations.
-use Rattle.std.specs.Prelude.{◌≡◌, ◌≢◌, ℕ, ◌+◌, ◌^◌, ◌<◌, ◌≤◌, ◌&&◌, ◌⊎◌, ◌↔◌, Bool, true, false}
+use Rattle.std.specs.Prelude.{◌≡◌, ℕ, ◌+◌, ◌^◌, ◌<◌, ◌≤◌, ◌&&◌, ◌⊎◌, ◌↔◌, Bool, true, false}
 use Rattle.std.specs.Prelude.{not, cond, length, min, List, [], ◌∷◌, Option, None, Some, Ok, Err}
 use Rattle.std.specs.FinMap as map
 use Rattle.std.specs.FinMap.{FinMap}
@@ -65,8 +65,8 @@ is_accepted Rejecting = false
 is_accepted Gone = false
 is_accepted (Answering accepted) = true
 is_accepted (Open accepted) = true
-is_accepted (Storing accepted item) = true
-is_accepted (Replying accepted item status) = true
+is_accepted (Storing accepted item since) = true
+is_accepted (Replying accepted item since status) = true
 
 -- a link that the node has accepted and not left
 abbrev pub has_accepted : Text → Option Link → Bool
@@ -103,12 +103,17 @@ pub record AnswersRequest (plan : Network) (old : World) (number : ℕ) (answer 
   pub stage : link.stage ≡ Asking
   pub then : AnswersAs plan old number link answer new
 
+-- how many lines the node's journal has
+abbrev pub line_count : World → Text → ℕ
+line_count w name = length (w.books name).lines
+
 -- The first row for the receiver that is due, if there is one, is settled as broken.
 abbrev pub SettlesFirst : World → Link → Option Answer → World → Type 0
 SettlesFirst old link (Some answer) new =
     (item : Instance)
     × IsNext (old.books link.caller) link.receiver old.time item
-    × Settlement old link.caller item.uid link.receiver Broken answer new
+    × Settlement old link.caller item.uid (line_count old link.caller) link.receiver Broken answer
+    new
 SettlesFirst old link None new =
     ((item : Instance) → IsNext (old.books link.caller) link.receiver old.time item → ⊥)
     × (new ≡ old)
@@ -134,10 +139,11 @@ pub record ReadsAnswer (old : World) (number : ℕ) (reply : Option Answer)
       × (new ≡ with_link mid number (without_caller link))))
 
 -- A caller that came to no link settles a row for the receiver as broken. It looked for the first
--- row that was due before it called, and in between others may have come.
+-- row that was due before it called, when its journal had so many lines, and in between others may
+-- have come.
 abbrev pub StaysAway : World → Text → Text → Text → Answer → World → Type 0
 StaysAway old caller uid receiver answer new =
-    Settlement old caller uid receiver Broken answer new
+    (since : ℕ) × Settlement old caller uid since receiver Broken answer new
 
 -- ---- a store and its reply
 
@@ -167,11 +173,13 @@ after_settling link answer accepted = record {
 abbrev pub GivesItem : World → ℕ → Link → Contexts → Instance → Option Answer → World → Type 0
 GivesItem old number link accepted item None new =
     (set.contains accepted (item.key.class, item.key.syntax) ≡ true)
-    × (new ≡ with_link old number (at_stage link (Storing accepted item)))
+    × (new
+    ≡ with_link old number (at_stage link (Storing accepted item (line_count old link.caller))))
 GivesItem old number link accepted item (Some answer) new =
     (set.contains accepted (item.key.class, item.key.syntax) ≡ false)
     × ((mid : World)
-    × Settlement old link.caller item.uid link.receiver NoContext answer mid
+    × Settlement old link.caller item.uid (line_count old link.caller) link.receiver NoContext
+    answer mid
     × (new ≡ with_link mid number (after_settling link answer accepted)))
 
 -- the caller of an open link takes the first row that is due
@@ -196,7 +204,8 @@ pub record PassesOver (old : World) (number : ℕ) (answer : Answer) (new : Worl
   pub stage : link.stage ≡ Open accepted
   pub first : IsNext (old.books link.caller) link.receiver old.time item
   pub mid : World
-  pub call : Settlement old link.caller item.uid link.receiver Unreadable answer mid
+  pub call : Settlement old link.caller item.uid (line_count old link.caller) link.receiver
+      Unreadable answer mid
   pub is : new ≡ with_link mid number (without_caller link)
 
 -- the receiver takes the instance, and its reply is under way
@@ -205,24 +214,28 @@ pub record Receives (plan : Network) (old : World) (number : ℕ) (reply : Reply
   pub link : Link
   pub accepted : Contexts
   pub item : Instance
+  pub since : ℕ
   pub at : IsLink old number link
   pub on : link.receiver_connected ≡ true
-  pub stage : link.stage ≡ Storing accepted item
+  pub stage : link.stage ≡ Storing accepted item since
   pub mid : World
   pub call : Arriving plan old link.receiver link.caller item reply mid
-  pub is : new ≡ with_link mid number (at_stage link (Replying accepted item (store_status reply)))
+  pub is : new
+      ≡ with_link mid number (at_stage link (Replying accepted item since (store_status reply)))
 
--- the caller takes the reply and settles the row that it had pending
+-- the caller takes the reply and settles the row that it had pending, by the instance that was
+-- handed out
 pub record ReadsReply (old : World) (number : ℕ) (answer : Answer) (new : World) : Type 0 where
   pub link : Link
   pub accepted : Contexts
   pub item : Instance
+  pub since : ℕ
   pub status : ℕ
   pub at : IsLink old number link
   pub on : link.caller_connected ≡ true
-  pub stage : link.stage ≡ Replying accepted item status
+  pub stage : link.stage ≡ Replying accepted item since status
   pub mid : World
-  pub call : Settlement old link.caller item.uid link.receiver (Status status) answer mid
+  pub call : Settlement old link.caller item.uid since link.receiver (Status status) answer mid
   pub is : new ≡ with_link mid number (after_settling link answer accepted)
 
 -- ---- endings
@@ -234,13 +247,23 @@ pending Rejecting = None
 pending Gone = None
 pending (Answering accepted) = None
 pending (Open accepted) = None
-pending (Storing accepted item) = Some item
-pending (Replying accepted item status) = Some item
+pending (Storing accepted item since) = Some item
+pending (Replying accepted item since status) = Some item
+
+-- how many lines its journal had when that was handed out
+abbrev pub handed_out : Stage → ℕ
+handed_out Asking = 0
+handed_out Rejecting = 0
+handed_out Gone = 0
+handed_out (Answering accepted) = 0
+handed_out (Open accepted) = 0
+handed_out (Storing accepted item since) = since
+handed_out (Replying accepted item since status) = since
 
 -- what the caller had pending is settled as broken; where nothing was, the world stays
 abbrev pub SettlesPending : World → Link → Option Instance → Option Answer → World → Type 0
 SettlesPending old link (Some item) (Some answer) new =
-    Settlement old link.caller item.uid link.receiver Broken answer new
+    Settlement old link.caller item.uid (handed_out link.stage) link.receiver Broken answer new
 SettlesPending old link None None new = new ≡ old
 SettlesPending old link (Some item) None new = ⊥
 SettlesPending old link None (Some answer) new = ⊥
@@ -310,18 +333,6 @@ Restarts old name replies new =
     (mid : World)
     × LeaveAll old (callers_of old name) replies mid
     × (new ≡ with_links mid (links_without mid.links name))
-
--- ---- forgetting
-
--- over no link has the caller, still connected, an instance of the uid pending: whatever is
--- answered yet is of another uid
-abbrev pub NoneIsPending : World → Text → Text → Type 0
-NoneIsPending w name uid =
-    (number : ℕ) (link : Link) (item : Instance)
-    → IsLink w number link → link.caller ≡ name
-    → link.caller_connected ≡ true
-    → pending link.stage ≡ Some item
-    → item.uid ≢ uid
 
 -- ---- time
 

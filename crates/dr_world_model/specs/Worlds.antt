@@ -20,9 +20,11 @@ pub data Stage : Type 0 where
   Answering : (accepted : Contexts) → Stage  -- an acceptance
   Rejecting : Stage  -- a rejection
   Open : (accepted : Contexts) → Stage  -- nothing
-  -- a C-STORE request, for which the caller has a row pending
-  Storing : (accepted : Contexts) → (item : Instance) → Stage
-  Replying : (accepted : Contexts) → (item : Instance) → (status : ℕ) → Stage  -- its response
+  -- a C-STORE request, for which the caller has a row pending; its journal had so many lines when
+  -- that was handed out
+  Storing : (accepted : Contexts) → (item : Instance) → (since : ℕ) → Stage
+  -- its response
+  Replying : (accepted : Contexts) → (item : Instance) → (since : ℕ) → (status : ℕ) → Stage
   Gone : Stage  -- nothing, and nothing will be
 
 -- an association, or what is left of one: who called whom, and whose side still reads
