@@ -18,7 +18,7 @@ OTHERS = 2  # associations that a receiver takes; 256 in the definitions, few he
 WRONG = {
     'rows_for_new_uids_only', 'kept_for_new_uids_only', 'body_overwritten', 'out_of_resources_is_done',
     'restart_drops_waiting_rows', 'success_without_an_arrival', 'done_rows_stand', 'adoption_forgets_what_is_kept', 'half_the_pairs_accepted',
-    'carried_rows_forgotten', 'kept_is_forgotten', 'queued_is_forgotten', 'arrivals_not_forgotten', 'rows_not_forgotten', 'pending_is_forgotten',
+    'carried_rows_forgotten', 'kept_is_forgotten', 'queued_is_forgotten', 'arrivals_not_forgotten', 'rows_not_forgotten', 'answers_settle_by_the_uid',
     'dropped_arrivals_stand', 'dropped_rows_stay_dropped', 'dropped_without_a_line', 'dropped_rows_stand', 'every_row_is_dropped',
     'away_is_done', 'unreadable_is_done', 'unreadable_is_gone',
 }
@@ -28,7 +28,8 @@ REACHED = {
     'answered': {'Ok', 'NotWaiting', 'Store', 'Memory'}, 'agree_caller': {'opened', 'Ok', 'Store', 'idle'}, 'agree_receiver': {'accepted', 'rejected'},
     'break_caller': {'Ok', 'Store', 'idle'}, 'close': {'Ok', 'Store', 'idle'}, 'restart': {'Ok', 'Store', 'idle'}, 'requeue': {'Ok', 'NotHeld', 'Store'},
     'stay_away': {'Ok', 'NotWaiting', 'Store', 'Memory'}, 'pass_over': {'Ok', 'Store', 'Memory'}, 'forget': {'Ok', 'NotOver', 'Store'},
-    'drop': {'Ok', 'NotHeld', 'Store'}, 'meets': {'an arrival a dropped row', 'an answer a dropped row', 'an adoption a dropped row', 'a forgetting a dropped row'},
+    'drop': {'Ok', 'NotHeld', 'Store'},
+    'meets': {'an arrival a dropped row', 'an answer a dropped row', 'an adoption a dropped row', 'a forgetting a dropped row', 'an answer what came since'},
     'adopt': {'refused', 'the same', 'another', 'another with a row'}, 'ask': {'-'}, 'give': {'-'}, 'break_receiver': {'-'}, 'refuse': {'-'}, 'tick': {'-'},
 }
 Item = collections.namedtuple('Item', 'uid key body')
@@ -44,7 +45,7 @@ class Book:
 class Link:
     def __init__(self, caller, receiver):
         self.caller, self.receiver, self.caller_connected, self.receiver_connected = caller, receiver, True, True
-        self.stage, self.accepted, self.item, self.status = 'asking', None, None, None
+        self.stage, self.accepted, self.item, self.since, self.status = 'asking', None, None, None, None
 
 
 class World:
@@ -94,9 +95,12 @@ class World:
         book.journal.append(('arrival', caller, item, targets, keep))
         return 'New'
 
-    def settle(self, name, uid, dest, outcome):
+    def settle(self, name, uid, since, dest, outcome):
         book = self.books[name]
         row = book.rows.get((uid, dest))
+        if ('forgetting', uid) in book.journal[since:] and 'answers_settle_by_the_uid' not in self.wrong:
+            self.happened['meets', 'an answer what came since'] += row is not None and row[0] == 'waiting'
+            return 'NotWaiting'
         if row is None or row[0] != 'waiting':
             self.happened['meets', 'an answer a dropped row'] += row == ('dropped',)
             return 'NotWaiting'
@@ -113,6 +117,9 @@ class World:
             book.rows[uid, dest] = ('held', outcome)
         book.journal.append(('settling', uid, dest, outcome))
         return 'Ok'
+
+    def line_count(self, name):
+        return len(self.books[name].journal)
 
     def first_due(self, name, dest):
         due = [(r[2], uid) for (uid, d), r in self.books[name].rows.items() if d == dest and r[0] == 'waiting' and r[2] <= self.time]
@@ -144,24 +151,25 @@ class World:
             return 'opened'
         item = self.first_due(link.caller, link.receiver)
         link.caller_connected = False
-        return self.settle(link.caller, item.uid, link.receiver, 'Broken') if item else 'idle'
+        return self.settle(link.caller, item.uid, self.line_count(link.caller), link.receiver, 'Broken') if item else 'idle'
 
     def stay_away(self, name, uid, dest):
-        return self.settle(name, uid, dest, SUCCESS if 'away_is_done' in self.wrong else 'Broken')
+        since = self.dice.randint(max(0, self.line_count(name) - 3), self.line_count(name))
+        return self.settle(name, uid, since, dest, SUCCESS if 'away_is_done' in self.wrong else 'Broken')
 
     def give(self, link):
         item = self.first_due(link.caller, link.receiver)
         if item.key[:2] in link.accepted:
-            link.stage, link.item = 'storing', item
+            link.stage, link.item, link.since = 'storing', item, self.line_count(link.caller)
             return '-'
-        answer = self.settle(link.caller, item.uid, link.receiver, 'NoContext')
+        answer = self.settle(link.caller, item.uid, self.line_count(link.caller), link.receiver, 'NoContext')
         link.caller_connected = answer not in ('Store', 'Memory')
         return answer
 
     def pass_over(self, link):
         item = self.first_due(link.caller, link.receiver)
         link.caller_connected = False
-        answer = self.settle(link.caller, item.uid, link.receiver, SUCCESS if 'unreadable_is_done' in self.wrong else 'Unreadable')
+        answer = self.settle(link.caller, item.uid, self.line_count(link.caller), link.receiver, SUCCESS if 'unreadable_is_done' in self.wrong else 'Unreadable')
         if 'unreadable_is_gone' in self.wrong:
             self.books[link.caller].rows.pop((item.uid, link.receiver), None)
         return answer
@@ -174,14 +182,14 @@ class World:
         return reply
 
     def answered(self, link):
-        answer = self.settle(link.caller, link.item.uid, link.receiver, link.status)
+        answer = self.settle(link.caller, link.item.uid, link.since, link.receiver, link.status)
         link.caller_connected, link.stage, link.item = answer not in ('Store', 'Memory'), 'open', None
         return answer
 
     def break_caller(self, link):
         pending = link.caller_connected and link.item
         link.caller_connected = False
-        return self.settle(link.caller, link.item.uid, link.receiver, 'Broken') if pending else 'idle'
+        return self.settle(link.caller, link.item.uid, link.since, link.receiver, 'Broken') if pending else 'idle'
 
     def break_receiver(self, link):
         link.receiver_connected = False
@@ -226,9 +234,6 @@ class World:
         rows = [r for (u, _), r in book.rows.items() if u == uid]
         return (uid in book.items and (uid not in book.kept or 'kept_is_forgotten' in self.wrong)
                 and (all(is_over(r) for r in rows) or ('queued_is_forgotten' in self.wrong and any(is_over(r) for r in rows))))
-
-    def is_pending(self, name, uid):
-        return any(l.caller == name and l.caller_connected and l.item and l.item.uid == uid for l in self.links.values())
 
     def forget(self, name, uid):
         if not self.is_over(name, uid):
@@ -321,7 +326,6 @@ def random_event(w, dice):
     if 0.88 <= choice < 0.92 and held:
         return dice.choice([w.requeue, w.drop]), dice.choice(held)
     known = [(n, u) for n in names for u in sorted(w.books[n].items) if w.is_over(n, u) or dice.random() < 0.1]
-    known = [(n, u) for n, u in known if not w.is_pending(n, u) or 'pending_is_forgotten' in w.wrong]
     if 0.96 <= choice and known:
         return w.forget, dice.choice(known)
     if 0.92 <= choice < 0.94:

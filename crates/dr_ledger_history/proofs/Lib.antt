@@ -1,3 +1,4 @@
+pub mod Forgotten
 mod Just
 pub mod Leaving
 pub mod Listed

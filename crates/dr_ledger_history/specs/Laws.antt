@@ -1,10 +1,14 @@
 -- Laws of what is told.
-use Rattle.std.specs.Prelude.{◌≡◌, List, [], ◌++◌}
-use Rattle.dr_ledger.specs.Books.{Book, Fold, Line}
+use Rattle.std.specs.Prelude.{◌≡◌, ◌↔◌, ℕ, IsTrue, List, [], ◌++◌, drop, Contains}
+use Rattle.std.specs.List.{list_any}
+use Rattle.dr_base.specs.Texts.{Text}
+use Rattle.dr_ledger.specs.Books.{Book, Fold, Forgetting, Line}
 use Rattle.dr_ledger.specs.Histories.{IsBeforeAdoption, IsJournalled}
 use Rattle.dr_ledger.specs.Routings.{Routing}
 use Rattle.dr_ledger_history.specs.Contents.{Content, content_of}
+use Rattle.dr_ledger_history.specs.Lines.{forgets, lines_of}
 use Rattle.dr_ledger_history.specs.Told.{IsTold, IsToldSince}
+use Rattle.dr_ledger_history.specs.declared.line.JournalLine.{JournalLine}
 
 -- what was told as past is over where it ends with an adoption, or is nothing
 abbrev pub PastIsOver : Routing → Type 0
@@ -31,3 +35,10 @@ ToldHasOneContent routing =
 abbrev pub AllButTheLines : Type 0
 AllButTheLines =
     (b other : Book) → content_of b ≡ content_of other → b.lines ≡ other.lines → b ≡ other
+
+-- whether a line behind so many forgets a uid is whether the journal has it forgotten there
+abbrev pub ForgettingsAreTold : Type 0
+ForgettingsAreTold =
+    (lines : List JournalLine) (after : ℕ) (uid : Text)
+    → IsTrue (list_any (forgets uid) (drop after lines))
+    ↔ Contains (drop after (lines_of lines)) (Forgetting uid)

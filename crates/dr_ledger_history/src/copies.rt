@@ -1,8 +1,10 @@
 //! Copies of lines of a journal.
 ghost use Rattle.std.specs.Prelude.{◌≡◌, IfOk, drop, take};
+ghost use Rattle.std.specs.List.{list_any};
+ghost use Rattle.dr_ledger_history.specs.Lines.{forgets};
 
 use crate::line::JournalLine;
-use dr_base::Seq;
+use dr_base::{Seq, Text};
 use std::alloc::{AllocError, Global};
 
 /// An equal line.
@@ -70,6 +72,13 @@ fn behind(lines: &[JournalLine], after: usize) -> &[JournalLine]
     }
     let (_before, rest) = lines.split_at(after);
     rest
+}
+
+/// Whether some line behind so many forgets the uid.
+pub fn is_forgotten_behind(lines: &[JournalLine], after: usize, uid: &Text) -> bool
+    ensures { result ≡ list_any (forgets uid.now) (drop after lines.now) }
+{
+    behind(lines, after).iter().any(|line| line.forgets(uid))
 }
 
 /// The first lines, so many at most.

@@ -1,5 +1,6 @@
 //! Laws of what is told.
-ghost use Rattle.dr_ledger_history.specs.Laws.{AllButTheLines, PastIsOver, ToldHasOneContent};
+ghost use Rattle.dr_ledger_history.specs.Laws.{AllButTheLines, ForgettingsAreTold, PastIsOver};
+ghost use Rattle.dr_ledger_history.specs.Laws.{ToldHasOneContent};
 ghost use Rattle.dr_ledger_history.specs.Laws.{ToldIsJournalled};
 
 use dr_ledger::laws::Routed;
@@ -16,4 +17,9 @@ pub fn what_is_told_is_journalled<R: Routed>()
     ensures journal { ToldIsJournalled R.routing }
     ensures one { ToldHasOneContent R.routing }
     ensures all { AllButTheLines }
+{}
+
+/// Whether a uid was forgotten behind some line is told by the lines behind it.
+pub fn forgettings_are_told()
+    ensures { ForgettingsAreTold }
 {}

@@ -12,7 +12,7 @@ mod parts;
 mod site;
 mod trees;
 
-pub use copies::{copy_line, copy_page};
+pub use copies::{copy_line, copy_page, is_forgotten_behind};
 pub use history::History;
 pub use line::{HistoryFault, JournalLine, entries_of};
 pub use trees::{put_uid, stands};

@@ -1,7 +1,7 @@
 //! Lines of a journal, as a ledger keeps them.
 ghost use Rattle.std.specs.Prelude.{◌≡◌, IfOk, map as mapped};
 ghost use Rattle.dr_ledger.specs.Replies.{entry_of};
-ghost use Rattle.dr_ledger_history.specs.Lines.{line_of, lines_of};
+ghost use Rattle.dr_ledger_history.specs.Lines.{forgets, line_of, lines_of};
 
 use dr_base::{Seq, Text};
 use dr_ledger::{Entry, Instance, Outcome};
@@ -50,6 +50,16 @@ pub enum JournalLine {
 }
 
 impl JournalLine {
+    /// Whether it forgets the uid.
+    pub fn forgets(&self, uid: &Text) -> bool
+        ensures { result ≡ forgets uid.now self.now }
+    {
+        match self {
+            JournalLine::Forgetting { uid: of } => of == uid,
+            _ => false,
+        }
+    }
+
     /// What is shown of it.
     pub fn entry(&self) -> Result<Entry, AllocError>
         ensures { IfOk result (λ e. e ≡ entry_of (line_of self.now)) }

@@ -14,8 +14,9 @@ ghost use Rattle.dr_ledger.specs.Adopting.{Adopting, Unfits, site_after};
 ghost use Rattle.dr_ledger.specs.Histories.{IsJournalled};
 ghost use Rattle.dr_ledger.specs.Items.{instance_of};
 ghost use Rattle.dr_ledger.specs.Replies.{Admits, AreKept, Arrives, Drops, Dues, Forgets};
-ghost use Rattle.dr_ledger.specs.Replies.{IsAdmitted, IsOver};
-ghost use Rattle.dr_ledger.specs.Replies.{Lists, Requeues, Settles, entry_of};
+ghost use Rattle.dr_ledger.specs.Replies.{IsAdmitted, IsOver, IsThereSince};
+ghost use Rattle.dr_ledger.specs.Replies.{IsWaiting, IsWaitingSince};
+ghost use Rattle.dr_ledger.specs.Replies.{Lists, Requeues, Settles, SettlesSince, entry_of};
 ghost use Rattle.dr_ledger.specs.Pairs.{pair_cmp};
 ghost use Rattle.dr_ledger.specs.SiteRoutes.{site_routing};
 ghost use Rattle.dr_ledger_views.specs.Numbers.{last_of};
@@ -37,7 +38,7 @@ use dr_ledger::{
     Arrived, Cause, Entry, Instance, Item, Job, Ledger, LedgerFault, LetsGo, NextRow, Outcome,
     Progress, moved,
 };
-use dr_ledger_history::{JournalLine, copy_page, entries_of};
+use dr_ledger_history::{JournalLine, copy_page, entries_of, is_forgotten_behind};
 use dr_ledger_views::listing::{
     callers_of_all, count_all_arrivals, count_all_kept, count_all_rows, first_of_all, own_of_all,
     page_of_all,
@@ -264,6 +265,51 @@ impl MemoryLedger {
             Some(Progress::Dropped) => Err(LedgerFault::NotWaiting),
             None => Err(LedgerFault::NotWaiting),
         }
+    }
+
+    /// Whether no line behind that number forgot the uid.
+    fn is_there_since(&self, uid: &Text, number: u64) -> bool
+        ensures { IsTrue result ↔ IsThereSince (content self.now.parts).lines uid.now number }
+    {
+        !is_forgotten_behind(self.parts.notes.as_slice(), number as usize, uid)
+    }
+
+    /// Whether the row waits.
+    fn waits(&self, uid: &Text, dest: &Text) -> bool
+        ensures { IsTrue result ↔ IsWaiting (content self.now.parts) uid.now dest.now }
+    {
+        matches!(self.row(uid, dest), Some(Progress::Waiting { .. }))
+    }
+
+    /// Whether the row waits that was handed out when the journal had so many lines.
+    fn waits_with(&self, uid: &Text, number: u64, dest: &Text) -> bool
+        ensures { IsTrue result
+            ↔ IsWaitingSince (content self.now.parts) uid.now number dest.now }
+    {
+        self.waits(uid, dest) && self.is_there_since(uid, number)
+    }
+
+    /// Settles the row that was handed out when the journal had so many lines, if it waits and its
+    /// instance wasn't forgotten since.
+    fn settle_since(
+        &mut self,
+        uid: &Text,
+        number: u64,
+        dest: &Text,
+        outcome: Outcome,
+        now: u64,
+    ) -> Result<(), LedgerFault>
+        requires { now ≤ 2 ^ 62 }
+        ensures reply { SettlesSince uid.now number dest.now outcome now (content self.old.parts)
+            result (content self.new.parts) }
+        ensures bodies { OnlyLetsGo (data_sets self.old.parts) (data_sets self.new.parts) }
+        ensures site { self.new.site ≡ self.old.site }
+        ensures never { NeverFails result }
+    {
+        if self.is_there_since(uid, number) {
+            return self.settle_at(uid, dest, outcome, now);
+        }
+        Err(LedgerFault::NotWaiting)
     }
 
     /// Queues the row again, if it is held.
@@ -634,11 +680,20 @@ impl Ledger for MemoryLedger {
     fn settle(
         &mut self,
         uid: &Text,
+        number: u64,
         dest: &Text,
         outcome: Outcome,
         now: u64,
     ) -> Result<(), LedgerFault> {
-        self.settle_at(uid, dest, outcome, now)
+        self.settle_since(uid, number, dest, outcome, now)
+    }
+
+    fn waits_since(&mut self, uid: &Text, number: u64, dest: &Text) -> Result<bool, LedgerFault> {
+        Ok(self.waits_with(uid, number, dest))
+    }
+
+    fn line_count(&self) -> u64 {
+        self.parts.notes.len() as u64
     }
 
     fn requeue(&mut self, uid: &Text, dest: &Text) -> Result<(), LedgerFault> {

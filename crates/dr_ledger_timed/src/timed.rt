@@ -112,14 +112,26 @@ impl<'a, L: Moments, R: Clock> Ledger for Timed<'a, L, R> {
     fn settle(
         &mut self,
         uid: &Text,
+        number: u64,
         dest: &Text,
         outcome: Outcome,
         now: u64,
     ) -> Result<(), LedgerFault> {
         let began = self.begin();
-        let answer = self.ledger.settle(uid, dest, outcome, now);
+        let answer = self.ledger.settle(uid, number, dest, outcome, now);
         self.end(began);
         answer
+    }
+
+    fn waits_since(&mut self, uid: &Text, number: u64, dest: &Text) -> Result<bool, LedgerFault> {
+        let began = self.begin();
+        let answer = self.ledger.waits_since(uid, number, dest);
+        self.end(began);
+        answer
+    }
+
+    fn line_count(&self) -> u64 {
+        self.ledger.line_count()
     }
 
     fn requeue(&mut self, uid: &Text, dest: &Text) -> Result<(), LedgerFault> {

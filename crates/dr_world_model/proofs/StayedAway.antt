@@ -91,8 +91,8 @@ refused_away_is_nothing plan w v node uid dest why s name =
 pub away_leaves_all_else : AwayLeavesAllElse
 away_leaves_all_else plan w v node uid dest answer s =
     let t : Settlement w node uid s.1.0 dest Broken answer v = s.1.1 in
-    let as = some_settling uid s.1.0 dest Broken w.time (w.books node) t.book answer t.call in
-    let left = book_left uid dest w.time (w.books node) t.book as.0 as.1 in
+    let done = some_settling uid s.1.0 dest Broken w.time (w.books node) t.book answer t.call in
+    let left = book_left uid dest w.time (w.books node) t.book done.0 done.1 in
     subst (λ (u : World). AllElseStays w u node uid dest) (sym t.called.is) (record {
       items = each_book w node t.book (λ n b. b.items ≡ (w.books n).items) left.items (λ n. refl);
       arrivals = each_book w node t.book (λ n b. b.arrivals ≡ (w.books n).arrivals) left.arrivals (λ n. refl);

@@ -5,9 +5,9 @@ use Rattle.dr_ledger_memory.proofs.ledger.MemoryLedgerLedger.settle.Goals as goa
 -- by hand: the search loses itself in what the trait asks
 pub returns : goal.returns
 returns c =
-    let e = c.settle_at.ensures in
-    let r = c.settle_at.result in
-    let l = c.settle_at.new.self in
+    let e = c.settle_since.ensures in
+    let r = c.settle_since.result in
+    let l = c.settle_since.new.self in
     record {
       reply = λ holds. e.reply;
       bodies = λ holds. e.bodies;
