@@ -18,7 +18,7 @@ use Rattle.dr_ledger.specs.Pairs.{pair_cmp}
 use Rattle.dr_world_model.specs.Worlds.{World, Contexts, Stage, Asking, Answering, Rejecting, Open, Storing, Replying, Gone, start}
 use Rattle.dr_world_model.specs.Runs.{Action, Occurs, Adopt, Runs}
 use Rattle.dr_world_model.specs.Claims.{AllIsThere, HadArrival, CoversHop, IsAnswered, IsOpen, IsOrigin, IsKeptAt, IsCovered, IsGivenUp, IsToGo, Headline, NobodyDropped, WasGivenUp}
-use Rattle.dr_world_model.specs.Theorem.{HeadlineHolds, WhatNobodyGaveUpIsThere}
+use Rattle.dr_world_model.specs.Theorem.{AnswersSettleWhatWasSent, HeadlineHolds, WhatNobodyGaveUpIsThere}
 use Rattle.dr_world_model.proofs.Walking.{goes_reached, reached_on, destination_before}
 use Rattle.dr_ledger.specs.Books.{empty_book}
 use Rattle.dr_ledger.proofs.Since.{nothing_taken}
@@ -26,7 +26,7 @@ use Rattle.dr_ledger.proofs.Succeeded.{none_yet}
 use Rattle.dr_plan_model.proofs.Gathered.{nothing_in_nil}
 use Rattle.dr_world_model.proofs.GivenUp.{dropped_since}
 use Rattle.dr_world_model.proofs.Keeping.{Noted}
-use Rattle.dr_world_model.proofs.Safety.{IsPassedOn, IsSafe, IsFairStage}
+use Rattle.dr_world_model.proofs.Safety.{IsPassedOn, IsSafe, IsFairStage, has_since}
 use Rattle.dr_world_model.proofs.EventsKept.{step_kept}
 use Rattle.dr_world_model.proofs.AdoptionsKept.{adoption_kept, empty_right, no_row}
 
@@ -168,6 +168,12 @@ run_kept (Adopt next ∷ actions) plan last sound w new safe r = run_kept action
 
 pub headline_holds : HeadlineHolds
 headline_holds plan sound actions last w r = let k = run_kept actions plan last sound start w (start_safe plan) r in safe_headline last w k.1 k.0
+
+pub answers_settle_what_was_sent : AnswersSettleWhatWasSent
+answers_settle_what_was_sent plan sound actions last w v number r s =
+    let safe = (run_kept actions plan last sound start w (start_safe plan) r).0 in
+    let fair = subst (IsFairStage last w s.link.caller s.link.receiver) s.stage (safe.links number s.link s.at) in
+    has_since (w.books s.link.caller) s.since s.item (safe.folds s.link.caller) fair.2 s.call.call.0.1
 
 -- ---- what nobody gave up
 pub none_given : (plan : Network) (w : World) (caller name : Text) (item : Instance) (dest : Text) → NobodyDropped w item.uid → IsGivenUp plan w caller name item dest → ⊥

@@ -1,5 +1,5 @@
 -- The headline, and what lasts.
-use Rattle.std.specs.Prelude.{◌≡◌, ◌++◌, true, List, Some}
+use Rattle.std.specs.Prelude.{◌≡◌, ℕ, ◌++◌, true, List, Ok, Some}
 use Rattle.std.specs.FinMap as map
 use Rattle.std.specs.FinSet as set
 use Rattle.dr_base.specs.Texts.{Text}
@@ -9,7 +9,8 @@ use Rattle.dr_ledger.specs.declared.item.Instance.{Instance}
 use Rattle.dr_ledger.specs.Books.{Line}
 use Rattle.dr_world_model.specs.Worlds.{World, start}
 use Rattle.dr_world_model.specs.Runs.{Action, Runs}
-use Rattle.dr_world_model.specs.Claims.{AllIsThere, Headline}
+use Rattle.dr_world_model.specs.Claims.{AllIsThere, Has, Headline}
+use Rattle.dr_world_model.specs.Steps.{ReadsReply}
 
 -- For every sound plan and every list of events and adoptions from the start: the four claims hold
 -- of the plan in force.
@@ -28,6 +29,16 @@ WhatNobodyGaveUpIsThere =
     → (actions : List Action) (last : Network) (w : World)
     → Runs plan start actions last w
     → AllIsThere last w
+
+-- An answer settles nothing but what was sent: after any actions, where a caller settles the row of
+-- a reply, its book has the very instance that went over the link, whatever it forgot meanwhile.
+abbrev pub AnswersSettleWhatWasSent : Type 0
+AnswersSettleWhatWasSent =
+    (plan : Network) → IsSound plan
+    → (actions : List Action) (last : Network) (w v : World) (number : ℕ)
+    → Runs plan start actions last w
+    → (read : ReadsReply w number (Ok tt) v)
+    → Has w read.link.caller read.item
 
 -- the headline of one plan at hand
 abbrev pub HeadlineHoldsOf : Network → Type 0

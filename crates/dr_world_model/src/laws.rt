@@ -23,7 +23,7 @@ ghost use Rattle.dr_world_model.specs.Spending.{RequeuingsSpendWell, SettlingsSp
 ghost use Rattle.dr_world_model.specs.StayingAway.{AwayLeavesAllElse, AwayTriesAgain};
 ghost use Rattle.dr_world_model.specs.StayingAway.{RefusedAwayIsNothing};
 ghost use Rattle.dr_world_model.specs.Strangers.{StrangersHaveNothing, TimeIsBounded};
-ghost use Rattle.dr_world_model.specs.Theorem.{WhatNobodyGaveUpIsThere};
+ghost use Rattle.dr_world_model.specs.Theorem.{AnswersSettleWhatWasSent, WhatNobodyGaveUpIsThere};
 ghost use Rattle.dr_world_model.specs.Unchanged.{NothingIsMadeUp, WhatIsThereIsUnchanged};
 ghost use Rattle.dr_world_model.specs.Laws.{ADroppingRuns, AForgettingRuns, AdoptionIsAFunction};
 ghost use Rattle.dr_world_model.specs.Laws.{StepIsAFunction};
@@ -91,6 +91,12 @@ pub fn a_refusal_is_spent()
 pub fn what_nobody_gave_up_is_there()
     ensures all { WhatNobodyGaveUpIsThere }
     ensures among { WhatNobodyGaveUpIsThereAmong }
+{}
+
+/// An answer settles nothing but what was sent: where a row is settled by one, the book has the very
+/// instance that went over the link.
+pub fn an_answer_settles_what_was_sent()
+    ensures { AnswersSettleWhatWasSent }
 {}
 
 /// For each claim of the headline there are worlds of which it is false.
