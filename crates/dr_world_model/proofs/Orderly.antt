@@ -12,7 +12,7 @@ use Rattle.dr_plan_model.specs.Networks.{Network}
 use Rattle.dr_ledger.specs.Books.{Book, Line, Adoption, empty_book, after, Fold}
 use Rattle.dr_ledger.specs.Histories.{IsSince}
 use Rattle.dr_ledger.specs.PlanRoutes.{plan_routing}
-use Rattle.dr_ledger.proofs.HandedOut.{some_settling}
+use Rattle.dr_ledger.proofs.Handed.{some_settling}
 use Rattle.dr_ledger.proofs.Folding.{folded_push, empty_is_journalled, arrivals_are_journalled, settlings_are_journalled, requeuings_are_journalled, droppings_are_journalled, forgettings_are_journalled, adoptions_are_journalled}
 use Rattle.dr_world_model.specs.Worlds.{World, Link, start, with_book}
 use Rattle.dr_world_model.specs.Calls.{StoreOutcome, Written, Untried, Failed, ArmedAfter, CalledAt}

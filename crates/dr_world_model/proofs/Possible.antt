@@ -37,7 +37,7 @@ use Rattle.dr_world_model.proofs.Counted.{others_are_counted}
 use Rattle.dr_world_model.proofs.Walking.{reached_on}
 use Rattle.dr_ledger.proofs.Growing.{inside, rows_made, rows_from, settled_is, dropped_is, given_up}
 use Rattle.dr_ledger.proofs.Folding.{fold_after}
-use Rattle.dr_ledger.proofs.HandedOut.{there_now}
+use Rattle.dr_ledger.proofs.Handed.{there_now}
 use Rattle.dr_ledger.proofs.Forgotten.{arrival_left}
 use Rattle.dr_ledger.proofs.Overs.{forgettings_take_their_uid}
 use Rattle.dr_ledger.proofs.Since.{taken_now, taken_still}

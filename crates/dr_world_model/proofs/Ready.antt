@@ -18,7 +18,7 @@ use Rattle.dr_ledger.specs.declared.item.Arrived.TheVariants.{Again}
 use Rattle.dr_ledger.specs.Books.{Book, Repeat, Settling, Requeuing, Dropping, Forgetting, after, empty_book}
 use Rattle.dr_ledger.specs.PlanRoutes.{plan_routing}
 use Rattle.dr_ledger.specs.Replies.{IsAdmitted, IsWaiting, IsWaitingSince, arrival_line, store_status, Reply}
-use Rattle.dr_ledger.proofs.HandedOut.{there_now}
+use Rattle.dr_ledger.proofs.Handed.{there_now}
 use Rattle.dr_world_model.specs.Worlds.{World, Link, Contexts, Storing, Replying, start, with_book, with_armed, with_link, without_caller, at_stage}
 use Rattle.dr_world_model.specs.Calls.{Arriving, Settlement}
 use Rattle.dr_world_model.specs.Steps.{Leaves, handed_out, line_count, pending, SettlesPending, after_settling}

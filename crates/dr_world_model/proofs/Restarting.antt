@@ -33,7 +33,7 @@ use Rattle.dr_ledger.proofs.Maps.{cases_of, same_or_not, ties_itself, get_other}
 use Rattle.dr_world_model.proofs.Lookups.{numbers}
 use Rattle.dr_world_model.proofs.Picking.{any_in, in_any, both, both_true, first_of_two}
 use Rattle.dr_world_model.proofs.Ready.{settles}
-use Rattle.dr_ledger.proofs.HandedOut.{forgotten_or_not}
+use Rattle.dr_ledger.proofs.Handed.{forgotten_or_not}
 
 -- ---- a settling has an answer, and leaves the links
 record Settled (w : World) (name uid : Text) (since : ℕ) (dest : Text) (outcome : Outcome) : Type 0 where

@@ -14,7 +14,7 @@ use Rattle.dr_ledger.specs.Books.{Book, Line, Fold, empty_book, folded}
 use Rattle.dr_ledger.specs.OneNode.{HasSucceededSince}
 use Rattle.dr_ledger.specs.Replies.{IsThereSince}
 use Rattle.dr_ledger.proofs.Folding.{folded_append}
-use Rattle.dr_ledger.proofs.HandedOut.{items_still}
+use Rattle.dr_ledger.proofs.Handed.{items_still}
 use Rattle.dr_world_model.specs.Worlds.{World, Link, Stage, Asking, Answering, Rejecting, Open, Storing, Replying, Gone, same_text, books_with, with_book, with_link}
 use Rattle.dr_world_model.specs.Claims.{Has, HadArrival, IsToSend, WasCarriedOver, WasGivenUp, HasSource, IsFairLine, IsFairStatus, CoversHop}
 use Rattle.dr_world_model.specs.Steps.{IsLink}

@@ -12,7 +12,7 @@ use Rattle.dr_ledger.specs.Books.{Book, is_queued, row_after}
 use Rattle.dr_ledger.specs.Laws.{Moves}
 use Rattle.dr_ledger.specs.Replies.{Settles, SettlesSince}
 use Rattle.dr_ledger.proofs.Growing.{settlings_move_a_row}
-use Rattle.dr_ledger.proofs.HandedOut.{some_settling}
+use Rattle.dr_ledger.proofs.Handed.{some_settling}
 use Rattle.dr_ledger.proofs.Maps.{texts, same_or_not}
 use Rattle.dr_world_model.specs.Worlds.{World}
 use Rattle.dr_world_model.specs.Calls.{Answer, Settlement}

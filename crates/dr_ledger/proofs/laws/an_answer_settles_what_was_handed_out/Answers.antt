@@ -1,4 +1,4 @@
-use Rattle.dr_ledger.proofs.HandedOut.{awaited_can_be_settled, forgotten_is_not_settled, settles_what_was_handed_out, settlings_since_are_settlings, settlings_since_have_answers, settlings_since_have_grounds}
+use Rattle.dr_ledger.proofs.Handed.{awaited_can_be_settled, forgotten_is_not_settled, settles_what_was_handed_out, settlings_since_are_settlings, settlings_since_have_answers, settlings_since_have_grounds}
 use Rattle.dr_ledger.proofs.laws.an_answer_settles_what_was_handed_out.Goals as goal
 
 pub returns-clause-same : goal.returns-clause-same

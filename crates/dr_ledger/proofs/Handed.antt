@@ -12,7 +12,7 @@ use Rattle.dr_ledger.specs.declared.item.Progress.{Progress}
 use Rattle.dr_ledger.specs.declared.item.Progress.TheVariants.{Waiting, Held, Done, Dropped}
 use Rattle.dr_ledger.specs.Books.{Book, Line, Arrival, Repeat, Settling, Requeuing, Dropping, Forgetting, Adoption, after, folded}
 use Rattle.dr_ledger.specs.Grounds.{IsAwaited}
-use Rattle.dr_ledger.specs.HandedOut.{AwaitedCanBeSettled, ForgottenIsNotSettled, SettlesWhatWasHandedOut, SettlingsSinceAreSettlings, SettlingsSinceHaveAnswers, SettlingsSinceHaveGrounds}
+use Rattle.dr_ledger.specs.Handing.{AwaitedCanBeSettled, ForgottenIsNotSettled, SettlesWhatWasHandedOut, SettlingsSinceAreSettlings, SettlingsSinceHaveAnswers, SettlingsSinceHaveGrounds}
 use Rattle.dr_ledger.specs.Histories.{IsCall, IsHistory}
 use Rattle.dr_ledger.specs.Laws.{HasAnswer}
 use Rattle.dr_ledger.specs.Replies.{IsThereSince, IsWaitingSince, Settles, SettlesSince}
