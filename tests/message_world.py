@@ -12,7 +12,7 @@ import sys
 
 sys.dont_write_bytecode = True
 from lib.message_claims import CONFLICT, Claim, NO_LINE, NO_STORE, SUCCESS, is_honest, is_over, lasts, none_refused, nothing_lost, seen
-from lib.message_plans import KEYS, LOCAL, grown, random_plan
+from lib.message_plans import KEYS, LOCAL, Accept, Flow, Plan, Rule, grown, random_plan
 
 OTHERS = 2  # associations that a receiver takes; 256 in the definitions, few here so that rejections come
 WRONG = {
@@ -342,19 +342,50 @@ def play(seed, wrong, happened, ends=None):
     w = World(random_plan(dice), dice, wrong, happened)
     for _ in range(dice.randint(20, 220)):
         event, told = random_event(w, dice)
-        before = seen(w)
-        reply = event(*told) if isinstance(told, tuple) else event(told)
-        happened[event.__name__, reply or '-'] += 1
-        try:
-            none_refused(w)
-            is_honest(w)
-            nothing_lost(w)
-            lasts(before, w)
-        except Claim as failed:
-            return failed.args
+        failed = step(w, event, told)
+        if failed:
+            return failed
     if ends:
         ends(w)
     return None
+
+
+def step(w, event, told):
+    """Plays one event. The name of the claim that fails behind it, or None."""
+    before = seen(w)
+    reply = event(*told) if isinstance(told, tuple) else event(told)
+    w.happened[event.__name__, reply or '-'] += 1
+    try:
+        none_refused(w)
+        is_honest(w)
+        nothing_lost(w)
+        lasts(before, w)
+    except Claim as failed:
+        return failed.args
+    return None
+
+
+class Even(random.Random):
+    """Dice by which nothing fails."""
+
+    def random(self):
+        return 0.5
+
+
+def crossing(wrong, happened):
+    """Two associations carry one instance. The first answer settles it, it is forgotten, and other bytes come under its
+    uid; then the second answer comes. As `play`."""
+    pairs = {KEYS[0][:2]}
+    plan = Plan({'A': [], 'B': [Rule('*', '*', '*', (), True)]}, {'A': [], 'B': [Accept('*', 'C', 'I')]}, [Flow('A', 'B', pairs, '*')])
+    assert plan.is_sound()
+    w = World(plan, Even(), wrong, happened)
+    w.ask('A', 'B')
+    w.ask('A', 'B')
+    one, other = w.links.values()
+    events = [(event, link) for link in (one, other) for event in (w.agree_receiver, w.agree_caller)]
+    events += [(w.take, ('A', Item('u1', KEYS[0], 'x')))] + [(event, link) for event in (w.give, w.receive) for link in (one, other)]
+    events += [(w.answered, one), (w.forget, ('A', 'u1')), (w.take, ('A', Item('u1', KEYS[0], 'y'))), (w.answered, other)]
+    return next((failed for failed in (step(w, *event) for event in events) if failed), None)
 
 
 def main():
@@ -365,13 +396,14 @@ def main():
     happened = collections.Counter()
     if '--wrong' in sys.argv:
         for name in sorted(WRONG):
-            failed = next((f for f in (play(seed * 1000003 + i, {name}, happened) for i in range(runs)) if f), None)
+            failed = crossing({name}, happened) if name == 'answers_settle_by_the_uid' else None
+            failed = failed or next((f for f in (play(seed * 1000003 + i, {name}, happened) for i in range(runs)) if f), None)
             print(f'{name}: {failed[0] if failed else "NOTHING FAILS"}', failed[1:] if failed else '')
             if not failed:
                 sys.exit(1)
         return
     for i in range(runs):
-        failed = play(seed * 1000003 + i, set(), happened)
+        failed = play(seed * 1000003 + i, set(), happened) or (i == 0 and crossing(set(), happened))
         if failed:
             print('run', i, 'fails', failed)
             sys.exit(1)
