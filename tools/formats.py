@@ -33,13 +33,7 @@ LIBRARY = re.compile(r"\bRattle\.(\w+)\.")
 SAME_NOTION = {"Node", "WellFormed"}
 # To be mended when these crates are next proved for something else, since each change of a source proves all above it
 # anew: one type has the name of another, and a line is one column too long.
-NEXT_TIME = {
-    "the type Begun is in dr_store_audit and dr_word_list",
-    "crates/dr_ledger/specs/Laws.antt:188: 101 columns, which tools/wrap.py breaks",
-    "crates/dr_store_calls/specs/Calling.antt:25: 101 columns, which tools/wrap.py breaks",
-    "crates/dr_store_open/src/laws.rt:39: 101 columns, which tools/wrap.py breaks",
-    "crates/dr_store_sealed/src/figures.rt:43: 101 columns, which tools/wrap.py breaks",
-}
+NEXT_TIME = set()
 
 
 def out_of_layout():

@@ -22,8 +22,8 @@ abbrev pub IsSafe : State → Type 0
 IsSafe s = HasCleanDisk s × IsTrue s.is_open
 
 -- What the tables of a ledger of that site show, where its next line has number n, and where these
--- lines of its past stand elsewhere: the site owns the tables, whose seal counts the past, each item
--- is beside its print, and the lines' numbers count up from the one behind the past to the one
+-- lines of its past stand elsewhere: the site owns the tables, whose seal counts the past, each
+-- item is beside its print, and the lines' numbers count up from the one behind the past to the one
 -- before n. No line that is still to come goes anywhere, the journal makes the book, the past's
 -- lines before those of the tables, and there is a cell for just the data sets that the book needs.
 pub record IsLedgerOf (past : List Line) (n : ℕ) (part : Part) (db : Trees) : Type 0 where

@@ -36,8 +36,8 @@ pub fn a_file_has_one_ledger()
 {}
 
 /// Tables without an owner are no ledger's, nor those in which other bytes than a mark's and a
-/// seal's stand behind the plan's SHA-256, nor those whose seal counts a line, nor those whose first
-/// line isn't numbered 1.
+/// seal's stand behind the plan's SHA-256, nor those whose seal counts a line, nor those whose
+/// first line isn't numbered 1.
 pub fn bad_tables_are_no_ledgers()
     ensures { BadTablesAreNone }
 {}

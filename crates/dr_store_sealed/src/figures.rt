@@ -40,6 +40,7 @@ pub fn what_is_a_line()
 pub fn a_seal_in_tables()
     ensures bytes { bytes_of_seal
         (record { count = 258; chain = replicate 32 7; number = 1; offset = 135 })
-        ≡ (2 ∷ 1 ∷ replicate 6 0) ++ replicate 32 7 ++ (1 ∷ replicate 7 0) ++ (135 ∷ replicate 7 0) }
+        ≡ (2 ∷ 1 ∷ replicate 6 0) ++ replicate 32 7 ++ (1 ∷ replicate 7 0)
+        ++ (135 ∷ replicate 7 0) }
     ensures none { seal_said [] ≡ first_seal }
 {}

@@ -16,7 +16,7 @@ const LF: u8 = 10;
 
 /// A line as far as no instance has to be looked up for it, and the UID of its instance.
 #[derive(Drop)]
-struct Begun {
+struct Draft {
     line: Vec<u8>,
     uid: Text,
 }
@@ -55,40 +55,40 @@ fn put_stage(out: &mut Vec<u8>, progress: Progress) -> Result<(), AllocError> {
 }
 
 /// The begun line of an arrival.
-fn arrival_begun(alloc: Global, arrival: &(Text, Text)) -> Result<Begun, AllocError> {
+fn arrival_begun(alloc: Global, arrival: &(Text, Text)) -> Result<Draft, AllocError> {
     let mut line = Vec::new(alloc);
     line.extend_from_slice(b"arrival")?;
     add_field(&mut line, arrival.0.as_bytes())?;
     add_field(&mut line, arrival.1.as_bytes())?;
     let uid = arrival.1.clone()?;
-    Ok(Begun { line, uid })
+    Ok(Draft { line, uid })
 }
 
 /// The begun line of a kept instance.
-fn kept_begun(alloc: Global, kept: &(Text, u64)) -> Result<Begun, AllocError> {
+fn kept_begun(alloc: Global, kept: &(Text, u64)) -> Result<Draft, AllocError> {
     let mut line = Vec::new(alloc);
     line.extend_from_slice(b"kept")?;
     add_field(&mut line, kept.0.as_bytes())?;
     add_number(&mut line, kept.1)?;
     let uid = kept.0.clone()?;
-    Ok(Begun { line, uid })
+    Ok(Draft { line, uid })
 }
 
 /// The begun line of a row.
-fn row_begun(alloc: Global, row: &((Text, Text), Progress)) -> Result<Begun, AllocError> {
+fn row_begun(alloc: Global, row: &((Text, Text), Progress)) -> Result<Draft, AllocError> {
     let mut line = Vec::new(alloc);
     line.extend_from_slice(b"row")?;
     add_field(&mut line, row.0.0.as_bytes())?;
     add_field(&mut line, row.0.1.as_bytes())?;
     put_stage(&mut line, row.1)?;
     let uid = row.0.0.clone()?;
-    Ok(Begun { line, uid })
+    Ok(Draft { line, uid })
 }
 
 /// The begun lines of these arrivals.
 fn begin_arrivals(
     alloc: Global,
-    begun: &mut Vec<Begun>,
+    begun: &mut Vec<Draft>,
     arrivals: &[(Text, Text)],
 ) -> Result<(), AllocError> {
     for arrival in arrivals {
@@ -100,7 +100,7 @@ fn begin_arrivals(
 /// The begun lines of these kept instances.
 fn begin_kept(
     alloc: Global,
-    begun: &mut Vec<Begun>,
+    begun: &mut Vec<Draft>,
     kept: &[(Text, u64)],
 ) -> Result<(), AllocError> {
     for one in kept {
@@ -112,7 +112,7 @@ fn begin_kept(
 /// The begun lines of these rows.
 fn begin_rows(
     alloc: Global,
-    begun: &mut Vec<Begun>,
+    begun: &mut Vec<Draft>,
     rows: &[((Text, Text), Progress)],
 ) -> Result<(), AllocError> {
     for row in rows {
@@ -127,7 +127,7 @@ fn begin_all(
     arrivals: &Seq<(Text, Text)>,
     kept: &Seq<(Text, u64)>,
     rows: &Seq<((Text, Text), Progress)>,
-) -> Result<Vec<Begun>, AllocError> {
+) -> Result<Vec<Draft>, AllocError> {
     let mut begun = Vec::new(alloc);
     begin_arrivals(alloc, &mut begun, arrivals.as_slice())?;
     begin_kept(alloc, &mut begun, kept.as_slice())?;
@@ -136,7 +136,7 @@ fn begin_all(
 }
 
 /// Adds a begun line, and where its instance is from.
-fn put_ended(out: &mut Vec<u8>, begun: &Begun, origin: Option<Origin>) -> Result<(), AllocError> {
+fn put_ended(out: &mut Vec<u8>, begun: &Draft, origin: Option<Origin>) -> Result<(), AllocError> {
     out.extend_from_slice(begun.line.as_slice())?;
     match origin {
         Some(origin) => {
@@ -155,7 +155,7 @@ fn put_ended(out: &mut Vec<u8>, begun: &Begun, origin: Option<Origin>) -> Result
 /// Adds these lines, each with where its instance is from. The ledger is only read.
 ///
 /// Errors: Store, Memory.
-fn put_all<L: Views>(out: &mut Vec<u8>, ledger: &mut L, begun: &[Begun]) -> Result<(), LedgerFault>
+fn put_all<L: Views>(out: &mut Vec<u8>, ledger: &mut L, begun: &[Draft]) -> Result<(), LedgerFault>
     ensures same { L.stands ledger.new → L.book ledger.new ≡ L.book ledger.old }
     ensures stood { L.stands ledger.new → L.stands ledger.old }
 {
