@@ -1,7 +1,8 @@
 //! The ledger of one node in memory.
 ghost use Rattle.std.specs.Prelude.{◌≡◌, ◌↔◌, ◌≤◌, ◌-◌, ◌^◌, IsTrue, IfOk, OnOk, ◌++◌, None, Ok};
 ghost use Rattle.std.specs.Prelude.{Some};
-ghost use Rattle.std.specs.Prelude.{T, drop, false, length, map as mapped, option_copied, take, true};
+ghost use Rattle.std.specs.Prelude.{T, drop, false, length, map as mapped, option_copied, take};
+ghost use Rattle.std.specs.Prelude.{true};
 ghost use Rattle.std.specs.BTreeMap.{IsOrdered};
 ghost use Rattle.std.specs.FinMap as map;
 ghost use Rattle.std.specs.FinMap.{is_sorted};

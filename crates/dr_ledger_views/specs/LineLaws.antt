@@ -1,5 +1,6 @@
 -- Laws of lines by their numbers, and an example.
-use Rattle.std.specs.Prelude.{◌≡◌, ◌<◌, ◌+◌, ◌^◌, ℕ, suc, List, [], ◌∷◌, ◌++◌, T, codes, drop, length}
+use Rattle.std.specs.Prelude.{◌≡◌, ◌<◌, ◌+◌, ◌^◌, ℕ, suc, List, [], ◌∷◌, ◌++◌, T, codes, drop}
+use Rattle.std.specs.Prelude.{length}
 use Rattle.std.specs.Prelude.{map as mapped}
 use Rattle.std.specs.FinMap.{is_sorted}
 use Rattle.std.specs.Ordering.{nat_cmp}
