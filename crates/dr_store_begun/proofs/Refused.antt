@@ -8,7 +8,6 @@ use Rattle.dr_ledger_history.specs.Contents.{Content}
 use Rattle.dr_ledger_history.specs.Told.{IsTold}
 use Rattle.dr_ledger_history.specs.declared.line.HistoryFault.{HistoryFault}
 use Rattle.dr_ledger_history.specs.declared.line.HistoryFault.TheVariants as history
-use Rattle.dr_store_sealed.specs.declared.fault.SealFault.{SealFault}
 use Rattle.dr_store_sealed.specs.declared.fault.SealFault.TheVariants as seal
 use Rattle.dr_store_sealed.specs.declared.seal.Seal.{Seal}
 use Rattle.dr_store_past.specs.declared.fault.PastFault.{PastFault}

@@ -1,16 +1,13 @@
 -- What follows of pasts from the definitions alone.
-use Rattle.std.proofs.Common.{◌≡◌, ◌≤◌, ◌<◌, ℕ, List, [], ◌∷◌, None, Some, length, slice_index_or, inl, inr, refl, sym, ◌∙◌, arith}
+use Rattle.std.proofs.Common.{◌≡◌, ℕ, List, [], ◌∷◌, None, Some, inl, inr, refl, sym, ◌∙◌, arith}
 use Rattle.std.specs.Prelude.{codes}
 use Rattle.std.specs.FinMap as map
-use Rattle.dr_ledger.specs.Books.{Adoption, Fold, Line, Requeuing}
-use Rattle.dr_ledger.specs.Histories.{IsBeforeAdoption, IsJournalled}
+use Rattle.dr_ledger.specs.Books.{Requeuing}
 use Rattle.dr_ledger.specs.Pairs.{pair_cmp}
 use Rattle.dr_ledger.specs.Routings.{Routing}
-use Rattle.dr_ledger_history.specs.Contents.{content, content_of}
+use Rattle.dr_ledger_history.specs.Contents.{content}
 use Rattle.dr_ledger_history.proofs.Telling.{past_is_over, told_is_journalled}
-use Rattle.dr_store_lists.specs.declared.listing.JournalRow.{JournalRow}
 use Rattle.dr_store_audit.specs.Begun.{HasBegun}
-use Rattle.dr_store_audit.specs.Telling.{GoOnUnder, NoneIsOver}
 use Rattle.dr_store_audit.specs.declared.begun.Begun.{Begun}
 use Rattle.dr_store_begun.specs.Laws.{BeginningsAreWorked, OthersGoOnAsJournals, PastsHaveOneBeginning, PastsThatAreOverGoOn}
 use Rattle.dr_store_begun.proofs.Left.{journal_as}

@@ -1,8 +1,4 @@
-use Rattle.std.proofs.Common.{◌≡◌, ◌+◌, ap, arith, rules, length}
-use Rattle.dr_ledger_history.specs.Contents.{content}
-use Rattle.dr_ledger_history.specs.Told.{IsTold}
-use Rattle.dr_store_sealed.specs.declared.seal.Seal.{Seal}
-use Rattle.dr_store_begun.specs.Beginning.{lines_in}
+use Rattle.std.proofs.Common.{◌≡◌, ◌+◌, arith, rules}
 use Rattle.dr_store_begun.proofs.Paged.{past_size}
 use Rattle.dr_store_begun.proofs.Refused.{not_read, stopped_on}
 use Rattle.dr_store_begun.proofs.beginning.begin.Goals as goal

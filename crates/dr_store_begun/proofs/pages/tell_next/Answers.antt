@@ -2,7 +2,6 @@ use Rattle.std.proofs.Common.{◌∙◌, ◌++◌, List, ap, sym, take}
 use Rattle.dr_ledger.specs.Books.{Line}
 use Rattle.dr_ledger_history.specs.Contents.{content}
 use Rattle.dr_ledger_history.specs.Lines.{lines_of}
-use Rattle.dr_ledger_history.specs.Told.{IsTold}
 use Rattle.dr_store_begun.specs.Beginning.{lines_in}
 use Rattle.dr_store_begun.proofs.Left.{told_as}
 use Rattle.dr_store_begun.proofs.Paged.{both_taken}
