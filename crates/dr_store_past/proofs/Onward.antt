@@ -1,9 +1,9 @@
 -- Reading a past: a page more, its end, and why it came to nothing.
-use Rattle.std.proofs.Common.{◌≡◌, ◌+◌, ◌<◌, ◌≤◌, false, ℕ, List, [], length, take, drop, All, IsTrue, refl, sym, ◌∙◌, ap, subst, arith}
+use Rattle.std.proofs.Common.{◌≡◌, ◌+◌, ◌≤◌, ℕ, List, [], ◌∷◌, length, take, drop, All, IsTrue, refl, sym, ◌∙◌, ap, subst, arith}
 use Rattle.std.proofs.lemmas.Bool.{both_ways}
-use Rattle.std.proofs.Common.{length-drop, length-take, ◌^◌}
-use Rattle.std.proofs.lemmas.List.{length-map}
-use Rattle.std.proofs.lemmas.List.Elements.{All-drop, All-take}
+use Rattle.std.proofs.Common.{length-drop, length-take}
+use Rattle.std.proofs.lemmas.List.{drop_all, length-map}
+use Rattle.std.proofs.lemmas.List.Elements.{All-cons, All-contains, All-drop, All-take}
 use Rattle.dr_base.specs.Texts.{Text}
 use Rattle.dr_ledger.specs.Books.{Line}
 use Rattle.dr_ledger_history.specs.declared.line.JournalLine.{JournalLine}
@@ -13,8 +13,8 @@ use Rattle.sqlite_disk.specs.Disk.{MoreFaults}
 use Rattle.dr_store_sealed.specs.declared.fault.SealFault.{SealFault}
 use Rattle.dr_store_sealed.specs.declared.fault.SealFault.TheVariants as fault
 use Rattle.dr_store_sealed.specs.declared.seal.Seal.{Seal}
-use Rattle.dr_store_sealed.specs.Files.{HasLines, HasRightLines, HasRightLinesTo}
-use Rattle.dr_store_sealed.specs.Lines.{IsOneLine, bytes_of}
+use Rattle.dr_store_sealed.specs.Files.{HasLines, HasRightLinesTo}
+use Rattle.dr_store_sealed.specs.Lines.{IsOneLine}
 use Rattle.dr_store_sealed.specs.Refusals.{IsWhyNotRead}
 use Rattle.dr_store_sealed.specs.Seals.{first_seal}
 use Rattle.dr_store_sealed.proofs.SealLemmas.{reaches}
@@ -24,9 +24,10 @@ use Rattle.dr_store_past.specs.declared.lines.PastLine.{PastLine}
 use Rattle.dr_store_past.specs.Lines.{IsHeldPast, all_said, past_in, texts_behind}
 use Rattle.dr_store_past.specs.Paging.{IsPage, IsWhyNoPage}
 use Rattle.dr_store_past.specs.Refusals.{IsWhyNotTold}
+use Rattle.dr_store_past.specs.Places.{IsPlaceBefore}
 use Rattle.dr_store_past.specs.Shown.{IsPlaceOf, ShowsPast}
-use Rattle.dr_store_past.proofs.Pages.{all_found, drop_none, take_none}
-use Rattle.dr_store_past.proofs.Shows.{at_end, count_next, first_place, firsts, low_next, page_there, place_next, right_there}
+use Rattle.dr_store_past.proofs.Pages.{all_found, take_none}
+use Rattle.dr_store_past.proofs.Shows.{at_end, count_next, first_place, firsts, low_next, low_place, page_there, place_next, right_there}
 
 -- what is found up to a place is that of all lines up to it
 pub record IsToldTo (all : List Line) (seen : List ℕ) (seal at : Seal) (after limit : ℕ) (found : List Line) : Type 0 where
@@ -34,18 +35,33 @@ pub record IsToldTo (all : List Line) (seen : List ℕ) (seal at : Seal) (after 
   pub low : at.count ≤ seal.count
   pub told : found ≡ take limit (drop after (take at.count all))
 
-module _ (all : List Line) (seen : List ℕ) (seal : Seal) (after limit : ℕ) (it : ShowsPast all seen seal) where
-  begun_first : IsToldTo all seen seal first_seal after limit []
-  begun_first = record {
-    place = first_place all seen seal it;
-    low = omega arith;
-    told = sym (ap (take limit) (drop_none {X = Line} after) ∙ take_none {X = Line} limit);
-  }
+pub begins_within : (seal : Seal) (places : List Seal) → All (λ (p : Seal). p.offset ≤ seal.offset) places
+    → (count : ℕ) (at : Seal) → IsPlaceBefore places count at → at.offset ≤ seal.offset
+begins_within seal places within count at before =
+    let P = λ (p : Seal). p.offset ≤ seal.offset in
+    All-contains P (first_seal ∷ places) at (All-cons P first_seal places (omega arith) within) before.known
 
-  pub begun : (at : Seal) → at ≡ first_seal → (found : List JournalLine) → found ≡ [] → IsToldTo all seen seal at after limit (lines_of found)
-  begun at is found none =
-      subst (λ s. IsToldTo all seen seal s after limit (lines_of found)) (sym is)
-      (subst (λ (l : List JournalLine). IsToldTo all seen seal first_seal after limit (lines_of l)) (sym none) begun_first)
+module _ (all : List Line) (seen : List ℕ) (seal : Seal) (after limit : ℕ) (it : ShowsPast all seen seal) where
+  module _ (places : List Seal) (within : All (λ (p : Seal). p.offset ≤ seal.offset) places) (are : All (IsPlaceOf seen) places)
+      (at : Seal) (before : IsPlaceBefore places after at) where
+    is_place : IsPlaceOf seen at
+    is_place =
+        All-contains (IsPlaceOf seen) (first_seal ∷ places) at
+        (All-cons (IsPlaceOf seen) first_seal places (first_place all seen seal it) are) before.known
+
+    is_within : at.offset ≤ seal.offset
+    is_within = begins_within seal places within after at before
+
+    pub begun : (found : List JournalLine) → found ≡ [] → IsToldTo all seen seal at after limit (lines_of found)
+    begun found none =
+        let size = length-take at.count all in
+        let low = before.low in
+        subst (λ (l : List JournalLine). IsToldTo all seen seal at after limit (lines_of l)) (sym none)
+        (record {
+          place = is_place;
+          low = low_place all seen seal it at is_place is_within;
+          told = sym (ap (take limit) (drop_all after (take at.count all) (omega (arith, size, low))) ∙ take_none {X = Line} limit);
+        })
 
   pub told_next : (at next : Seal) (texts : List (List ℕ)) (old new : List Line)
       → at.offset ≤ seal.offset → All IsOneLine texts → HasLines seen at texts next → next.offset ≤ seal.offset
@@ -78,15 +94,15 @@ module _ (all : List Line) (seen : List ℕ) (seal : Seal) (after limit : ℕ) (
 
 module _ {D : Type 0} (g : Ghosts D) (all : List Line) (seal at : Seal) (first mid new : D)
     (seen : g.seen mid ≡ g.seen first) (faults : g.faults mid ≡ g.faults first)
-    (usable : IsTrue (g.is_usable first) → IsTrue (g.is_usable mid)) (low : at.offset ≤ seal.offset)
-    (there : IsTrue (g.is_clean new) → ShowsPast all (g.seen first) seal → IsPlaceOf (g.seen first) at) where
+    (usable : IsTrue (g.is_usable first) → IsTrue (g.is_usable mid)) (low : at.offset ≤ seal.offset) (Known : Type 0)
+    (there : IsTrue (g.is_clean new) → ShowsPast all (g.seen first) seal → Known → IsPlaceOf (g.seen first) at) where
   abbrev pub Holds : Type 0
-  Holds = IsTrue (g.is_clean new) × ShowsPast all (g.seen first) seal
+  Holds = IsTrue (g.is_clean new) × ShowsPast all (g.seen first) seal × Known
 
   is_right : Holds → HasRightLinesTo (g.seen mid) at seal.offset
   is_right holds =
       subst (λ file. HasRightLinesTo file at seal.offset) (sym seen)
-      (let r : HasRightLinesTo (g.seen first) at seal.offset = (seal, right_there all (g.seen first) seal holds.1 at (there holds.0 holds.1) low, refl) in r)
+      (let r : HasRightLinesTo (g.seen first) at seal.offset = (seal, right_there all (g.seen first) seal holds.1 at (there holds.0 holds.1 holds.2) low, refl) in r)
 
   reaches_there : Holds → seal.offset ≤ length (g.seen mid)
   reaches_there holds =
@@ -129,3 +145,7 @@ unpicked texts count clean usable old new reason.NoLine page h =
     (All-take IsHeldPast (length texts) (drop count lines) (All-drop IsHeldPast count lines is.held))
     (let cut = length-take (length texts) (drop count lines) in let left = length-drop count lines in let up = is.counted in let low = is.within in omega (arith, cut, left, up, low))
     is.are
+
+-- no memory was left for a place
+pub unnoted : (clean usable : Type 0) (old new : ℕ) (why : PastFault) → why ≡ reason.Sealed fault.Memory → IsWhyNotTold clean usable old new why
+unnoted clean usable old new why is = subst (IsWhyNotTold clean usable old new) (sym is) tt

@@ -1,7 +1,7 @@
 -- What a file shows of a past before a call and after it.
-use Rattle.std.proofs.Common.{◌≡◌, ◌+◌, ◌^◌, ◌<◌, ◌≤◌, ℕ, List, [], ◌∷◌, ◌++◌, length, take, drop, All, slice_index, slice_index_or, zero, suc}
-use Rattle.std.proofs.Common.{refl, sym, ◌∙◌, ap, subst, arith, length-take, get_or-take, map as mapped}
-use Rattle.std.proofs.lemmas.List.{append_assoc, drop_at, drop-take, get_or_append_left, length-append, length-map, map-append, take-take, take_all, take_at}
+use Rattle.std.proofs.Common.{◌≡◌, ◌+◌, ◌≤◌, ℕ, List, [], ◌∷◌, ◌++◌, length, take, drop, All, slice_index, slice_index_or}
+use Rattle.std.proofs.Common.{refl, sym, ◌∙◌, ap, subst, arith, length-take, get_or-take}
+use Rattle.std.proofs.lemmas.List.{append_assoc, drop_at, drop-take, get_or_append_left, length-append, map-append, take-take, take_all, take_at}
 use Rattle.std.proofs.lemmas.List.Elements.{All-append, All-contains, All-drop, All-nil, All-push, All-take}
 use Rattle.dr_ledger.specs.Books.{Line}
 use Rattle.dr_ledger_text.specs.Laws.{TextsAreOfOneLine}
@@ -18,7 +18,7 @@ use Rattle.dr_store_sealed.proofs.SealLemmas.{reaches, spans_more}
 use Rattle.dr_store_past.specs.declared.lines.PastLine.{PastLine}
 use Rattle.dr_store_past.specs.Counted.{shown_count, texts_size}
 use Rattle.dr_store_past.specs.Laws.{CrashLeavesEither, ShowsOnePast, WrittenGoesOn}
-use Rattle.dr_store_past.specs.Lines.{FitsPast, IsHeldPast, all_said, past_in, said_by, texts_behind}
+use Rattle.dr_store_past.specs.Lines.{FitsPast, IsHeldPast, all_said, said_by, texts_behind}
 use Rattle.dr_store_past.specs.Paging.{IsPage}
 use Rattle.dr_store_past.specs.Shown.{AreNextIn, HasWrittenIn, HasWrittenLines, IsCleanPast, IsPlaceOf, ShowsPast}
 use Rattle.dr_store_past.proofs.Pages.{both_taken}
@@ -241,22 +241,27 @@ module _ (all : List Line) (seen : List ℕ) (may : List ℕ → Type 0) (places
   pub clean_after : (H K : Type 0) → K → IsCleanPast all H seen from places → All IsHeldPast lines → AreNextIn all from lines → IsCleanPast all K seen last places
   clean_after H K k it held next = record { honest = k; shows = shows_after it.shows held next; places = it.places }
 
--- what was written goes on what the past has
+-- what was written goes on what was written before it
+pub written_more : (seen : List ℕ) (may : List ℕ → Type 0) (start from : Seal) (before lines : List PastLine) (last : Seal)
+    → from.count ≡ start.count + length before
+    → HasWrittenIn seen may start before from → HasWrittenIn seen may from lines last → HasWrittenIn seen may start (before ++ lines) last
+written_more seen may start from before lines last n it more =
+    let texts : texts_behind start.count before ++ texts_behind from.count lines ≡ texts_behind start.count (before ++ lines) =
+    ap (λ k. texts_behind start.count before ++ texts_behind k lines) n ∙ sym (texts_more start.count before lines) in
+    record {
+      spans =
+          subst (λ ls. Spans start ls last) texts
+          (spans_more start from last (texts_behind start.count before) (texts_behind from.count lines) it.spans more.spans);
+      endures =
+          subst (λ ls. Endures seen may start.offset (bytes_of start.chain ls)) texts
+          (endures_more seen may start from (texts_behind start.count before) (texts_behind from.count lines) it.spans it.endures more.endures);
+    }
+
+-- and on what the past has
 pub holds_more : (seen : List ℕ) (may : List ℕ → Type 0) (from : Seal) (before lines : List PastLine) (last : Seal)
     → HasWrittenIn seen may first_seal before from → HasWrittenIn seen may from lines last → HasWrittenIn seen may first_seal (before ++ lines) last
 holds_more seen may from before lines last it more =
-    let own = last_count seen may first_seal before from it in
-    let n : from.count ≡ 0 + length before = omega (arith, own) in
-    let texts : texts_behind 0 before ++ texts_behind from.count lines ≡ texts_behind 0 (before ++ lines) =
-    ap (λ k. texts_behind 0 before ++ texts_behind k lines) n ∙ sym (texts_more 0 before lines) in
-    record {
-      spans =
-          subst (λ ls. Spans first_seal ls last) texts
-          (spans_more first_seal from last (texts_behind 0 before) (texts_behind from.count lines) it.spans more.spans);
-      endures =
-          subst (λ ls. Endures seen may 0 (bytes_of first_seal.chain ls)) texts
-          (endures_more seen may first_seal from (texts_behind 0 before) (texts_behind from.count lines) it.spans it.endures more.endures);
-    }
+    written_more seen may first_seal from before lines last (last_count seen may first_seal before from it) it more
 
 -- what is written stays where all before its end does
 pub written_kept : (seen other : List ℕ) (may is : List ℕ → Type 0) (at : ℕ) (from : Seal) (lines : List PastLine) (last : Seal)
@@ -334,6 +339,14 @@ clean_within all H seen other seal places same it =
 
 -- ---- reading
 
+nothing_at : (seen : List ℕ) (seal : Seal) (lines : List (List ℕ)) → HasLines seen first_seal lines seal → HasLines seen seal [] seal
+nothing_at seen seal lines has =
+    let place = reaches first_seal seal lines has.spans in
+    record {
+      spans = record { after = refl; one_file = refl };
+      bytes = holds_none seen seal.offset (let low = has.bytes.within in omega (arith, place, low));
+    }
+
 module _ (all : List Line) (seen : List ℕ) (seal : Seal) (it : ShowsPast all seen seal) where
   pub right : HasRightLines seen first_seal seal
   right = record { lines = texts_behind 0 it.lines; are = it.one; has = it.has; counted = it.counted }
@@ -344,6 +357,14 @@ module _ (all : List Line) (seen : List ℕ) (seal : Seal) (it : ShowsPast all s
   module _ (at : Seal) (place : IsPlaceOf seen at) (low : at.offset ≤ seal.offset) where
     pub right_there : HasRightLines seen at seal
     right_there = right_on seen first_seal at seal place.before place.one place.has low right
+
+    pub low_place : at.count ≤ seal.count
+    low_place =
+        let parts = segment seen it.lines seal at at place.before [] it.one it.has place.one place.has
+        (All-nil IsOneLine) (nothing_at seen at place.before place.has) low in
+        let own = shown_count all seen seal it in
+        let up = parts.2 in
+        omega (arith, own, up)
 
     pub at_end : seal.offset ≤ at.offset → seal ≡ at
     at_end over = none_left seen at seal (let e : seal.offset ≡ at.offset = omega (arith, low, over) in e) right_there
@@ -380,14 +401,6 @@ module _ (all : List Line) (seen : List ℕ) (seal : Seal) (it : ShowsPast all s
   firsts count low = ap (take count) it.said ∙ take-take count seal.count all low
 
 -- ---- laws
-
-nothing_at : (seen : List ℕ) (seal : Seal) (lines : List (List ℕ)) → HasLines seen first_seal lines seal → HasLines seen seal [] seal
-nothing_at seen seal lines has =
-    let place = reaches first_seal seal lines has.spans in
-    record {
-      spans = record { after = refl; one_file = refl };
-      bytes = holds_none seen seal.offset (let low = has.bytes.within in omega (arith, place, low));
-    }
 
 pub one_past : TextsAreOfOneLine → ShowsOnePast
 one_past law all other seen seal it its =

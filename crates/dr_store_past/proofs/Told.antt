@@ -8,7 +8,7 @@ use Rattle.dr_ledger.specs.Books.{Line}
 use Rattle.dr_ledger_history.specs.declared.line.JournalLine.{JournalLine}
 use Rattle.dr_ledger_history.specs.declared.line.JournalLine.TheVariants as told
 use Rattle.dr_ledger_history.specs.Lines.{line_of, lines_of}
-use Rattle.dr_ledger_text.specs.Laws.{AreSame, FitsInstance, FitsLine, IsSealable, TextsAreOfOneLine}
+use Rattle.dr_ledger_text.specs.Laws.{FitsInstance, FitsLine, IsSealable, TextsAreOfOneLine}
 use Rattle.dr_ledger_text.specs.Lines.{sealed_text}
 use Rattle.dr_ledger_read.specs.Reading.{IsTextOf}
 use Rattle.dr_ledger_read.specs.Held.{IsHeldItem, IsHeldLine}

@@ -1,5 +1,5 @@
 -- What appending leaves of a past's lines, and why it came to nothing.
-use Rattle.std.proofs.Common.{◌≡◌, ◌+◌, ◌-◌, ◌^◌, ◌<◌, ◌≤◌, ℕ, List, length, take, All, IsTrue, refl, sym, ◌∙◌, ap, subst, arith, Result, Ok, Err, IsErr, IsErrAnd, IfErr, OnOk}
+use Rattle.std.proofs.Common.{◌≡◌, ◌+◌, ◌-◌, ◌<◌, ◌≤◌, ℕ, List, length, take, All, IsTrue, refl, sym, ◌∙◌, ap, subst, arith, Result, Ok, Err, IsErr, IsErrAnd, IfErr, OnOk}
 use Rattle.std.proofs.lemmas.List.{take_all}
 use Rattle.sqlite_disk.specs.declared.Disk.{Ghosts}
 use Rattle.sqlite_disk.specs.Disk.{MoreFaults}
@@ -9,7 +9,7 @@ use Rattle.dr_store_sealed.specs.declared.seal.Seal.{Seal}
 use Rattle.dr_store_sealed.specs.Files.{Endures, Spans}
 use Rattle.dr_store_sealed.specs.Held.{IsWhyNotAdded}
 use Rattle.dr_store_sealed.specs.Lines.{IsOneLine, bytes_of}
-use Rattle.dr_store_sealed.specs.Seals.{TakesLines, full, lines_between, seal_after}
+use Rattle.dr_store_sealed.specs.Seals.{TakesLines, full, lines_between}
 use Rattle.dr_store_sealed.proofs.SealLemmas.{count_after}
 use Rattle.dr_store_past.specs.declared.lines.PastLine.{PastLine}
 use Rattle.dr_store_past.specs.Counted.{texts_size}

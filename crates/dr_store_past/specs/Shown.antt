@@ -1,8 +1,6 @@
 -- What a file shows of a past, and what it has of it whatever a crash does.
-use Rattle.std.specs.Prelude.{◌≡◌, ◌+◌, ◌^◌, ◌<◌, ℕ, List, length, drop, take, All, Contains}
-use Rattle.std.specs.Prelude.{IsTrue}
+use Rattle.std.specs.Prelude.{◌≡◌, ◌^◌, ◌<◌, ℕ, List, length, drop, take, All, Contains}
 use Rattle.dr_ledger.specs.Books.{Line}
-use Rattle.sqlite_disk.specs.declared.Disk.{Ghosts}
 use Rattle.dr_store_sealed.specs.declared.seal.Seal.{Seal}
 use Rattle.dr_store_sealed.specs.Files.{Endures, HasLines, Spans}
 use Rattle.dr_store_sealed.specs.Lines.{IsOneLine, bytes_of}

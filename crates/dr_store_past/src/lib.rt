@@ -12,6 +12,7 @@ pub mod laws;
 mod lines;
 mod none;
 mod past;
+mod places;
 mod reading;
 mod sealed;
 mod writing;

@@ -1,16 +1,18 @@
 //! Lines of a past, read from its file.
 ghost use Rattle.std.specs.Prelude.{◌≡◌, ◌+◌, ◌^◌, ◌<◌, ◌≤◌, ◌++◌, ℕ, List, drop, length, take};
-ghost use Rattle.std.specs.Prelude.{All, IfErr, IfOk, IsTrue, OnOk};
+ghost use Rattle.std.specs.Prelude.{All, IfErr, IfOk, IsTrue, OnOk, Option};
 ghost use Rattle.dr_ledger.specs.Books.{Line};
 ghost use Rattle.dr_ledger_history.specs.Lines.{lines_of};
 ghost use Rattle.dr_store_past.specs.declared.lines.PastLine.{PastLine as LineValue};
 ghost use Rattle.dr_store_past.specs.Lines.{IsHeldPast, all_said, past_in, texts_behind};
 ghost use Rattle.dr_store_past.specs.Paging.{IsPage, IsWhyNoLine, IsWhyNoPage};
 ghost use Rattle.dr_store_past.specs.Refusals.{IsWhyNotTold};
-ghost use Rattle.dr_store_past.specs.Shown.{ShowsPast};
+ghost use Rattle.dr_store_past.specs.Places.{NotesPlaces};
+ghost use Rattle.dr_store_past.specs.Shown.{IsPlaceOf, ShowsPast};
 ghost use Rattle.dr_ledger_read.specs.Reading.{IsTextOf};
 
 use crate::fault::PastFault;
+use crate::places::{note_place, place_before};
 use dr_base::{Seq, Text};
 use dr_ledger_history::JournalLine;
 use dr_ledger_read::laws::a_text_is_read_in_one_way;
@@ -21,6 +23,8 @@ use std::alloc::Global;
 
 /// The line that has this text.
 fn line_in(alloc: Global, text: &[u8]) -> Result<JournalLine, PastFault>
+    ensures is { IfOk result (λ line. (number : ℕ) × (moment : Option ℕ)
+        × IsTextOf text.now number line moment) }
     ensures read { IfOk result (λ line. (n : ℕ) (it : LineValue)
         → IsTextOf text.now n it.line it.moment → line ≡ it.line) }
     ensures why { IfErr result (IsWhyNoLine text.now) }
@@ -71,27 +75,33 @@ fn pick_lines(
 }
 
 /// The lines whose numbers lie behind that one, up to the seal, in their order: so many at most.
-/// They are read from the beginning of the file on.
+/// They are read from the last place on that is noted before them, and further ones are noted.
 pub fn read_behind<D: Disk>(
     alloc: Global,
     file: &mut D,
+    places: &mut Vec<Seal>,
     seal: &Seal,
     after: u64,
     limit: usize,
 ) -> Result<Seq<JournalLine>, PastFault>
+    requires { All (λ place. place.offset ≤ seal.now.offset) places.old.items }
     ensures answer { IfOk result (λ found. (all : List Line)
         → IsTrue (D.Disk.is_clean file.new) → ShowsPast all (D.Disk.seen file.old) seal.now
+        → All (IsPlaceOf (D.Disk.seen file.old)) places.old.items
         → lines_of found ≡ take limit (drop after (past_in all seal.now))) }
+    ensures notes { NotesPlaces (IsTrue (D.Disk.is_clean file.new)) (D.Disk.seen file.old) seal.now
+        places.old.items places.new.items }
     ensures shows { D.Disk.seen file.new ≡ D.Disk.seen file.old }
     ensures leaves { (c : List ℕ) → D.Disk.may_leave file.new c → D.Disk.may_leave file.old c }
     ensures clean { IsTrue (D.Disk.is_clean file.new) → IsTrue (D.Disk.is_clean file.old) }
     ensures why { IfErr result (λ fault. (all : List Line) → IsWhyNotTold
-        (IsTrue (D.Disk.is_clean file.new) × ShowsPast all (D.Disk.seen file.old) seal.now)
+        (IsTrue (D.Disk.is_clean file.new) × ShowsPast all (D.Disk.seen file.old) seal.now
+        × All (IsPlaceOf (D.Disk.seen file.old)) places.old.items)
         (IsTrue (D.Disk.is_usable file.old))
         (D.Disk.faults file.old) (D.Disk.faults file.new) fault) }
 {
     let mut found = Seq::new(alloc);
-    let mut at = Seal::first();
+    let mut at = place_before(places.as_slice(), after);
     while at.offset < seal.offset {
         if found.len() >= limit {
             return Ok(found);
@@ -99,6 +109,7 @@ pub fn read_behind<D: Disk>(
         match read_lines(alloc, file, &at, seal.offset) {
             Ok((texts, next)) => {
                 pick_lines(alloc, &mut found, &texts, at.count, after, limit)?;
+                note_place(places, &next)?;
                 at = next;
             }
             Err(fault) => return Err(PastFault::Sealed(fault)),

@@ -26,7 +26,8 @@ pub struct SealedFiles<F: PastFiles> {
     disk: F::Disk,
     /// How far the past goes.
     seal: Seal,
-    /// How far it went earlier in this run: lines begin there.
+    /// Where lines begin: how far it went earlier in this run, and what was noted while lines were
+    /// read.
     places: Vec<Seal>,
     ghost within: { All (λ place. place.offset ≤ seal.offset) places.items },
 }
@@ -131,6 +132,7 @@ impl<F: PastFiles> LedgerPast for SealedFiles<F> {
         read_behind(
             self.alloc,
             &mut self.disk,
+            &mut self.places,
             &self.seal,
             after,
             limit as usize,

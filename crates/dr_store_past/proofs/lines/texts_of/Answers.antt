@@ -1,4 +1,3 @@
-use Rattle.std.proofs.Common.{rules}
 use Rattle.dr_store_past.proofs.Told.{all_fitting, all_texts, texts_pushed}
 use Rattle.dr_store_past.proofs.lines.texts_of.Goals as goal
 

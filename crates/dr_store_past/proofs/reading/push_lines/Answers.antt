@@ -1,4 +1,4 @@
-use Rattle.std.proofs.Common.{rules, ◌∙◌}
+use Rattle.std.proofs.Common.{◌∙◌}
 use Rattle.dr_ledger_history.specs.Lines.{lines_of}
 use Rattle.dr_store_past.proofs.Told.{line_refused, said_all, said_pushed}
 use Rattle.dr_store_past.proofs.Written.{err_told}

@@ -1,7 +1,8 @@
-use Rattle.std.proofs.Common.{◌≡◌, ◌-◌, ◌≤◌, ℕ, List, IsTrue}
+use Rattle.std.proofs.Common.{◌≡◌, ◌-◌, ◌≤◌, ℕ, List, All, IsTrue}
 use Rattle.dr_ledger.specs.Books.{Line}
 use Rattle.dr_ledger_history.specs.Lines.{lines_of}
-use Rattle.dr_store_past.specs.Shown.{ShowsPast}
+use Rattle.dr_store_past.specs.Places.{NotesPlaces}
+use Rattle.dr_store_past.specs.Shown.{IsPlaceOf, ShowsPast}
 use Rattle.dr_store_past.proofs.Onward.{IsToldTo}
 use Rattle.dr_store_past.proofs.reading.read_behind.Given as goal
 
@@ -16,7 +17,9 @@ invariant-loop-at g l =
     × (l.at.offset ≤ l.seal.offset)
     × ((all : List Line)
     → IsTrue (g.D.Disk.is_clean l.file) → ShowsPast all (g.D.Disk.seen l.initial.file) l.seal
+    → All (IsPlaceOf (g.D.Disk.seen l.initial.file)) l.initial.places.items
     → IsToldTo all (g.D.Disk.seen l.initial.file) l.seal l.at l.after l.limit (lines_of l.found))
+    × NotesPlaces (IsTrue (g.D.Disk.is_clean l.file)) (g.D.Disk.seen l.initial.file) l.seal l.initial.places.items l.places.items
 
 abbrev pub decreases-loop-at : goal.decreases-loop-at
 decreases-loop-at g l = l.seal.offset - l.at.offset
