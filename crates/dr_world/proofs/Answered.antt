@@ -1,5 +1,5 @@
 -- What ledgers answer to steps, and what that leaves of a book.
-use Rattle.std.proofs.Common.{◌≡◌, List, [], ◌∷◌, Option, None, Some, Result, Ok, Err, inl, inr, refl, sym, ap, subst, ◌∙◌}
+use Rattle.std.proofs.Common.{◌≡◌, ◌⊎◌, List, [], ◌∷◌, Option, None, Some, Result, Ok, Err, inl, inr, refl, sym, ap, subst, ◌∙◌}
 use Rattle.std.specs.Prelude.{Bool, true, false, if◌then◌else◌, IfErr, IfOk, MatchResult}
 use Rattle.std.proofs.lemmas.Bool.{false≢true}
 use Rattle.std.specs.BTreeMap as tree
@@ -26,11 +26,12 @@ use Rattle.dr_session.specs.Ledgers.{Desk}
 use Rattle.dr_node.specs.declared.node.Node.{Node}
 use Rattle.dr_world_model.specs.Events.{HasNode}
 use Rattle.dr_world_model.specs.Worlds.{same_text}
-use Rattle.dr_world_tie.specs.ByteWorlds.{ByteWorld, StepNote, WorldStep, Submit, Away, Requeue, Drop, Forget, beginning, note_of, with_call}
+use Rattle.dr_world_tie.specs.ByteWorlds.{ByteWorld, StepNote, WorldStep, Submit, Away, Requeue, Drop, Forget, Refused, beginning, note_of, with_call}
 use Rattle.dr_world.specs.declared.fault.WorldFault.{WorldFault}
+use Rattle.dr_world.specs.declared.fault.WorldFault.TheVariants as fault
 use Rattle.dr_world.specs.declared.steps.StepNote.{StepNote as Note}
 use Rattle.dr_world.specs.declared.world.World.{World}
-use Rattle.dr_world.specs.Answered.{EnteringIsAnswered, IsAnswered, IsAnsweredIf, IsUnanswered, IsUnansweredBy, armed_at, armed_for, armed_in, armed_of}
+use Rattle.dr_world.specs.Answered.{EnteringIsAnswered, IsAnswered, IsAnsweredIf, IsUnansweredBy, armed_at, armed_for, armed_in, armed_of}
 use Rattle.dr_world.specs.Nodes.{seat_of}
 use Rattle.dr_world.specs.Played.{WhatEntersIsThere}
 use Rattle.dr_world.specs.Shows.{ShowsBytes, desk_at}
@@ -73,9 +74,13 @@ went_on_answered f step armed note (Ok same) is h =
     subst P (λ j. (is j, sym h.0 j)) h.1
 went_on_answered f step armed note (Err why) is h = tt
 
-pub went_no_further : (armed : Bool) (note : Note) (r : Result Note WorldFault) → GoesOnWith armed note r → IfErr r IsUnanswered
-went_no_further armed note (Ok same) h = tt
-went_no_further armed note (Err why) h = elim h [ inl memory ↦ inl memory.0 | inr store ↦ inr store.0 ]
+pub went_no_further : (P : Note → Type 0) (f : Text → Bool) (step : WorldStep) (armed : Bool) (note : Note) (r : Result Note WorldFault) → armed ≡ armed_for f step → GoesOnWith armed note r → P note
+    → IfErr r (λ why. (why ≡ fault.Memory) ⊎ ((why ≡ fault.Store) × ((came : Note) × P came × (noted came ≡ Refused ledger.Store) × (armed_for f step ≡ false))))
+went_no_further P f step armed note (Ok same) is h p = tt
+went_no_further P f step armed note (Err why) is h p = elim h [
+  | inl memory ↦ inl memory.0
+  | inr store ↦ inr (store.0, (note, p, store.1, sym is ∙ store.2))
+]
 
 -- ---- an instance that enters
 

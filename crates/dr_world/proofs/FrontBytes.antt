@@ -1,5 +1,5 @@
 -- How many bytes on a wire belong to the PDU at the front.
-use Rattle.std.proofs.Common.{◌≡◌, ◌≢◌, ℕ, suc, ◌+◌, ◌-◌, ◌<◌, ◌≤◌, List, [], ◌∷◌, ◌++◌, append_assoc, length, get_or, refl, sym, ap, ◌∙◌, arith, inl, inr}
+use Rattle.std.proofs.Common.{◌≡◌, ◌≢◌, ◌⊎◌, ℕ, suc, ◌+◌, ◌-◌, ◌<◌, ◌≤◌, List, [], ◌∷◌, ◌++◌, append_assoc, length, get_or, refl, sym, ap, ◌∙◌, arith, inl, inr}
 use Rattle.std.specs.Int.{w32, to_be_bytes, from_be_bytes}
 use Rattle.std.proofs.lemmas.Nat.{from_be_bytes-to_be_bytes_4}
 use Rattle.std.proofs.lemmas.List.{length-append, append-nil}
@@ -9,7 +9,7 @@ use Rattle.dr_pdu.specs.Written.{Fits, MeetsLimit, written}
 use Rattle.dr_pdu.proofs.WrittenLemmas.{written_spells}
 use Rattle.dr_world_tie.specs.Channels.{LiveTerminal}
 use Rattle.dr_world_tie.specs.Moves.{IsLeft}
-use Rattle.dr_world.specs.Moved.{TellsLength, IsLeftOf, IsMovable}
+use Rattle.dr_world.specs.Moved.{TellsLength, IsLeftOf, IsMovable, IsUpTo, told_length}
 
 -- the limit 0 is met by each
 free : (p : Pdu) → MeetsLimit 0 p
@@ -39,6 +39,22 @@ pub length_read : (text : List ℕ) (a b c d n : ℕ) → a ≡ get_or text 2 0 
 length_read text a b c d n is_a is_b is_c is_d is =
     let bytes : a ∷ b ∷ c ∷ d ∷ [] ≡ field text = (λ i. is_a i ∷ is_b i ∷ is_c i ∷ is_d i ∷ []) in
     tells_length text (n + 6) (ap (λ (x : ℕ). x + 6) (is ∙ ap (from_be_bytes w32) bytes))
+
+pub length_told : (text : List ℕ) (a b c d n : ℕ) → a ≡ get_or text 2 0 → b ≡ get_or text 3 0 → c ≡ get_or text 4 0 → d ≡ get_or text 5 0 → n ≡ from_be_bytes w32 (a ∷ b ∷ c ∷ d ∷ []) → n + 6 ≡ told_length text
+length_told text a b c d n is_a is_b is_c is_d is =
+    let bytes : a ∷ b ∷ c ∷ d ∷ [] ≡ field text = (λ i. is_a i ∷ is_b i ∷ is_c i ∷ is_d i ∷ []) in
+    ap (λ (x : ℕ). x + 6) (is ∙ ap (from_be_bytes w32) bytes)
+
+-- where the last byte is that is told of
+module _ (told kept wire size : ℕ) (is : size ≡ told) where
+  pub told_kept : size ≤ kept → IsUpTo told kept wire wire
+  told_kept less = inr (inl (omega (arith, is, less)), refl)
+
+  pub told_short : kept < size → wire < size - kept → IsUpTo told kept wire wire
+  told_short more short = inr (inr (omega (arith, is, more, short)), refl)
+
+  pub told_there : kept < size → size - kept ≤ wire → IsUpTo told kept wire (size - kept)
+  told_there more there = inl (omega (arith, is, more), omega (arith, is, more, there), omega (arith, is, more))
 
 some_length : (left : List ℕ) → left ≢ [] → 0 < length left
 some_length [] some = absurd (some refl)

@@ -5,6 +5,7 @@ pub mod Beginning
 pub mod Calling
 pub mod Counted
 pub mod AtNodes
+pub mod Joining
 pub mod LettingGo
 pub mod StayingAway
 pub mod Stepping

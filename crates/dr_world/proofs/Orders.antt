@@ -1,6 +1,8 @@
 -- Orders one after the other, and what is done for them.
 use Rattle.std.proofs.Common.{◌≡◌, ◌⊎◌, ℕ, ◌+◌, ◌<◌, ◌≤◌, List, [], ◌∷◌, ◌++◌, length, get_or, take, append_assoc, map as mapped, None, inl, inr, refl, sym, ap, subst, ◌∙◌}
 use Rattle.std.proofs.lemmas.List.{append-nil, take_more, take_all}
+use Rattle.std.specs.Prelude.{Contains}
+use Rattle.std.proofs.lemmas.List.Elements.{Contains-push_cases}
 use Rattle.dr_base.specs.Texts.{Text}
 use Rattle.dr_ledger.specs.declared.ledger.Ledger.{Ghosts}
 use Rattle.dr_plan_model.proofs.Gathered.{nothing_in_nil}
@@ -170,6 +172,25 @@ orders_early orders i one fault.Store less is h = absurd h
 pub one_refuses : (orders : List WorldOrder) (i : ℕ) (one : WorldOrder) → i < length orders → one ≡ get_or orders i one → IsRefusalOrder one → OrdersRefusal orders
 one_refuses orders i (order.Deed (deed.Step (step_of.RefuseStore node))) less is h = (node, (i, less, sym is))
 one_refuses orders i one less is h = absurd h
+
+-- none does among none
+pub none_refuse : (orders : List WorldOrder) → OrdersRefusal (take 0 orders) → ⊥
+none_refuse orders (node, among) = nothing_in_nil (order.Deed (deed.Step (step_of.RefuseStore node))) among
+
+-- nor with one more that doesn't
+pub one_refuses_not : (orders : List WorldOrder) (i : ℕ) (one : WorldOrder) → i < length orders → one ≡ get_or orders i one → (OrdersRefusal (take i orders) → ⊥) → (IsRefusalOrder one → ⊥)
+    → OrdersRefusal (take (i + 1) orders) → ⊥
+one_refuses_not orders i one less is before its (node, among) =
+    let told : WorldOrder = order.Deed (deed.Step (step_of.RefuseStore node)) in
+    let listed : take (i + 1) orders ≡ take i orders ++ one ∷ [] = take_more orders i one less ∙ ap (λ (x : WorldOrder). take i orders ++ x ∷ []) (sym is) in
+    elim (Contains-push_cases (take i orders) one told (subst (λ (os : List WorldOrder). Contains os told) listed among)) [
+      | inl earlier ↦ before (node, earlier)
+      | inr last ↦ its (subst (λ (x : WorldOrder). IsRefusalOrder x) (sym last) tt)
+    ]
+
+-- the first of them, as many as there are, are all
+pub refuses_all : (orders : List WorldOrder) (i : ℕ) → length orders ≤ i → OrdersRefusal orders → OrdersRefusal (take i orders)
+refuses_all orders i all h = subst (λ (os : List WorldOrder). OrdersRefusal os) (sym (take_all i orders all)) h
 
 -- a store that fails in a change was told to
 pub told_early : (orders : List WorldOrder) (f : WorldFault) → EndsEarly (OrdersChange orders) f → OrdersRefusal orders → EndsEarly (OrdersChange orders × OrdersRefusal orders) f

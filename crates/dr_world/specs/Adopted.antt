@@ -1,6 +1,6 @@
 -- All nodes of a world take another plan at once.
-use Rattle.std.specs.Prelude.{◌≡◌, ◌⊎◌, ◌↔◌, ◌&&◌, ℕ, Bool, false, not, List, [], ◌∷◌, ◌++◌, Option}
-use Rattle.std.specs.Prelude.{Some, None, Contains}
+use Rattle.std.specs.Prelude.{◌≡◌, ◌≢◌, ◌⊎◌, ◌↔◌, ◌&&◌, ℕ, Bool, false, not, List, [], ◌∷◌, ◌++◌}
+use Rattle.std.specs.Prelude.{Option, Some, None, is_some, Contains, filter, length}
 use Rattle.std.specs.List.{list_any}
 use Rattle.std.specs.Ordering.{nat_cmp}
 use Rattle.std.specs.declared.cmp.Ordering.TheVariants.{Less}
@@ -9,8 +9,9 @@ use Rattle.std.specs.BTreeMap as tree
 use Rattle.std.specs.BTreeMap.{BTreeMap}
 use Rattle.dr_base.specs.Texts.{Text, text_cmp}
 use Rattle.dr_plan_model.specs.Networks.{Network}
+use Rattle.dr_plan_model.specs.Plans.{AreNames}
 use Rattle.dr_plan_sound.specs.declared.certificate.Certificate.{Certificate}
-use Rattle.dr_site.specs.Parts.{IsPartOf}
+use Rattle.dr_site.specs.Parts.{IsPartOf, Part}
 use Rattle.dr_site.specs.Sites.{IsCertified}
 use Rattle.dr_ledger.specs.Adopting.{IsFit, Unfits}
 use Rattle.dr_ledger.specs.Books.{Adoption, after}
@@ -23,9 +24,11 @@ use Rattle.dr_world_tie.specs.ByteWorlds.{ByteWorld}
 use Rattle.dr_world_tie.specs.Changes.{AllAreOver, TakesPlan}
 use Rattle.dr_world.specs.declared.changing.Change.{Change}
 use Rattle.dr_world.specs.declared.changing.Change.TheVariants.{Adopted, Skipped, Unfit}
+use Rattle.dr_world.specs.declared.fault.WorldFault.{WorldFault}
+use Rattle.dr_world.specs.declared.fault.WorldFault.TheVariants as cause
 use Rattle.dr_world.specs.declared.wires.Wires.{Wires}
 use Rattle.dr_world.specs.declared.world.World.{World}
-use Rattle.dr_world.specs.Founding.{Founds}
+use Rattle.dr_world.specs.Founding.{Founds, SomeIsUnfit}
 use Rattle.dr_world.specs.Nodes.{AllStandIn, over_at, seats_of}
 use Rattle.dr_world.specs.Reports.{AreSameNodes}
 use Rattle.dr_world.specs.Shows.{IsSeated, Seat, Seats, ShowsBytes}
@@ -111,6 +114,17 @@ AreJoining plan nodes names =
     (name : Text)
     → Contains names name ↔ (HasNode plan name × (tree.get text_cmp nodes name ≡ None))
 
+-- no node has the name
+abbrev pub is_absent : {L : Type 0} {l : Ghosts L}
+    → BTreeMap Text (Node L l) → Text → Bool
+is_absent nodes name = not (is_some (tree.get text_cmp nodes name))
+
+-- They are the names of the plan's nodes in byte order, without those that a node has.
+abbrev pub JoinInOrder : {L : Type 0} {l : Ghosts L}
+    → Network → BTreeMap Text (Node L l) → List Text → Type 0
+JoinInOrder plan nodes names =
+    (all : List Text) × AreNames plan all × (names ≡ filter (is_absent nodes) all)
+
 -- The nodes of these names have gone over, those of the other names are founded, and all links are
 -- gone.
 abbrev pub Took : {L : Type 0} {l : Ghosts L}
@@ -130,6 +144,25 @@ AreNodes plan names = (name : Text) → Contains names name → HasNode plan nam
 -- each node of the plan is one of the next
 abbrev pub AllStay : Network → Network → Type 0
 AllStay plan next = (name : Text) → HasNode plan name → HasNode next name
+
+-- ---- why a change isn't made
+
+-- why a node doesn't go over: its store failed, or there was no memory
+abbrev pub IsHalted : WorldFault → Type 0
+IsHalted why = (why ≡ cause.Memory) ⊎ (why ≡ cause.HalfAdopted)
+
+-- Why a change isn't made: a node doesn't go over; or there is another number of ledgers than of
+-- nodes that join, or one of them can't be its node's.
+abbrev pub EndsChange : {K L : Type 0} {l : Ghosts L}
+    → (Part → K → WorldFault → Type 0)
+    → Network → Certificate → List K → World L l → WorldFault → Type 0
+EndsChange unfit next own joining new why =
+    IsHalted why
+    ⊎ ((names : List Text)
+    × (((why ≡ cause.WrongLedgers)
+    × JoinInOrder next new.nodes names
+    × (length names ≢ length joining))
+    ⊎ SomeIsUnfit unfit next own names joining why))
 
 -- ---- rows
 

@@ -56,10 +56,6 @@ abbrev pub IsAnswered : (Text → Bool) → WorldStep → StepNote → Type 0
 IsAnswered armed step note = IsAnsweredIf (armed_for armed step ≡ true) note
 
 -- why a world doesn't go on: there was no memory, or a store failed that wasn't told to refuse
-abbrev pub IsUnanswered : WorldFault → Type 0
-IsUnanswered why = (why ≡ fault.Memory) ⊎ (why ≡ fault.Store)
-
--- the same of what was noted, where the store was told to refuse or not
 abbrev pub IsUnansweredBy : Bool → StepNote → WorldFault → Type 0
 IsUnansweredBy armed note why =
     ((why ≡ fault.Memory) × (note ≡ Refused ledger.Memory))

@@ -1,6 +1,7 @@
 -- A Move of bytes: what it finds to do, and what it does.
-use Rattle.std.specs.Prelude.{◌≡◌, ◌≢◌, ◌⊎◌, ℕ, ◌<◌, ◌≤◌, ◌++◌, nat_le, true, false, List, []}
-use Rattle.std.specs.Prelude.{length, take, drop, Option, Some, None}
+use Rattle.std.specs.Prelude.{◌≡◌, ◌≢◌, ◌⊎◌, ℕ, ◌+◌, ◌<◌, ◌≤◌, ◌∷◌, ◌++◌, nat_le, true, false, List}
+use Rattle.std.specs.Prelude.{[], get_or, length, take, drop, Option, Some, None}
+use Rattle.std.specs.Int.{from_be_bytes, w32}
 use Rattle.std.specs.Ordering.{nat_cmp}
 use Rattle.std.specs.FinMap as map
 use Rattle.std.specs.BTreeMap as tree
@@ -32,6 +33,25 @@ use Rattle.dr_world.specs.Whole.{AllStand, contents}
 abbrev pub TellsLength : List ℕ → ℕ → Type 0
 TellsLength text n =
     (p : Pdu) (more : List ℕ) → text ≡ written p ++ more → Fits p → n ≡ length (written p)
+
+-- the length that the field of the PDU at the front tells, with the six bytes up to it (PS3.8
+-- 9.3.1)
+abbrev pub told_length : List ℕ → ℕ
+told_length text =
+    from_be_bytes w32
+    (get_or text 2 0 ∷ get_or text 3 0 ∷ get_or text 4 0 ∷ get_or text 5 0 ∷ [])
+    + 6
+
+-- So many bytes of a wire are those up to the last one that is told of, or all, where that one
+-- isn't on the wire.
+abbrev pub IsUpTo : ℕ → ℕ → ℕ → ℕ → Type 0
+IsUpTo told kept wire n =
+    ((kept < told) × (told ≤ kept + wire) × (kept + n ≡ told))
+    ⊎ (((told ≤ kept) ⊎ (kept + wire < told)) × (n ≡ wire))
+
+-- the lesser of two numbers
+abbrev pub IsFewer : ℕ → ℕ → ℕ → Type 0
+IsFewer n left m = ((n < left) × (m ≡ n)) ⊎ ((left ≤ n) × (m ≡ left))
 
 -- So many bytes of a wire belong to the PDU whose front is kept, where its rest is on the wire; and
 -- some do, where there are some.

@@ -196,6 +196,14 @@ EndsEarly HasOne fault.Store = ⊥
 
 -- ---- laws
 
+-- Memory may always lack. A store may fail in a change alone; and nothing else ends deeds early.
+pub record DeedsEndEarly : Type 0 where
+  pub memory : EndsEarly ⊥ fault.Memory
+  pub changed : EndsEarly (Unit {0}) fault.HalfAdopted
+  pub unchanged : EndsEarly ⊥ fault.HalfAdopted → ⊥
+  pub ledgers : EndsEarly (Unit {0}) fault.WrongLedgers → ⊥
+  pub store : EndsEarly (Unit {0}) fault.Store → ⊥
+
 -- From wherever deeds have led to, a step of a simulator's world goes on that is answered, and so
 -- does a change of plan.
 abbrev pub StepsGoOn : {L : Type 0} {l : Ghosts L} → World L l → World L l → Type 0

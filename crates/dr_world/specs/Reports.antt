@@ -14,6 +14,8 @@ use Rattle.dr_ledger.specs.Pairs.{pair_cmp}
 use Rattle.dr_ledger.specs.Replies.{AreKept, Lists, entry_of}
 use Rattle.dr_node.specs.declared.node.Node.{Node}
 use Rattle.dr_ledger_report.specs.Reports.{IsReportOf, name_line}
+use Rattle.dr_world.specs.declared.fault.WorldFault.{WorldFault}
+use Rattle.dr_world.specs.declared.fault.WorldFault.TheVariants.{Memory, Store}
 use Rattle.dr_world.specs.declared.listing.Listing.{Listing}
 use Rattle.dr_world.specs.Nodes.{AllStandIn, seats_of}
 
@@ -56,6 +58,10 @@ abbrev pub AreSameNodes : {L : Type 0} {l : Ghosts L}
 AreSameNodes old new =
     (AllStandIn new → AllStandIn old)
     × (AllStandIn new → (name : Text) → seats_of new name ≡ seats_of old name)
+
+-- why nothing is read: there was no memory, or the ledger's store failed
+abbrev pub IsUnread : WorldFault → Type 0
+IsUnread why = (why ≡ Memory) ⊎ (why ≡ Store)
 
 -- ---- reports
 

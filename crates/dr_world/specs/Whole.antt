@@ -1,5 +1,6 @@
 -- The contents of a simulator's world, and what its steps do to them.
-use Rattle.std.specs.Prelude.{List, ◌≡◌, ℕ, ◌+◌, ◌^◌, min, true, Option, None, Some, Result}
+use Rattle.std.specs.Prelude.{List, ◌≡◌, ◌⊎◌, ℕ, ◌+◌, ◌^◌, min, true, false, Option, None, Some}
+use Rattle.std.specs.Prelude.{Result}
 use Rattle.std.specs.Ordering.{nat_cmp}
 use Rattle.std.specs.BTreeMap as tree
 use Rattle.dr_base.specs.Texts.{Text, text_cmp}
@@ -10,6 +11,7 @@ use Rattle.dr_plan_sound.specs.declared.certificate.Certificate.{Certificate}
 use Rattle.dr_site.specs.Sites.{IsCertified}
 use Rattle.dr_ledger.specs.declared.content.Job.{Job}
 use Rattle.dr_ledger.specs.declared.fault.LedgerFault.{LedgerFault}
+use Rattle.dr_ledger.specs.declared.fault.LedgerFault.TheVariants as ledger
 use Rattle.dr_ledger.specs.Refusals.{Arms}
 use Rattle.dr_ledger.specs.Replies.{Drops, Forgets, Requeues, IsHeld, IsOver, Reply}
 use Rattle.dr_ledger.specs.SiteRoutes.{site_routing}
@@ -22,11 +24,14 @@ use Rattle.dr_session.specs.Desks.{Arrive, Arrival}
 use Rattle.dr_session.specs.Ledgers.{Desk, RoutedStep, desk}
 use Rattle.dr_world_model.specs.Calls.{Answer}
 use Rattle.dr_world_tie.specs.ByteWorlds as bytes
+use Rattle.dr_world.specs.declared.fault.WorldFault.{WorldFault}
+use Rattle.dr_world.specs.declared.fault.WorldFault.TheVariants as cause
 use Rattle.dr_world.specs.declared.steps.StepNote.{StepNote}
 use Rattle.dr_world.specs.declared.steps.StepNote.TheVariants.{Done, Skipped, Refused, UnderWay}
 use Rattle.dr_world.specs.declared.wires.Wires.{Wires}
 use Rattle.dr_world.specs.declared.world.World.{World}
 use Rattle.dr_world.specs.Shows.{Contents, Seat, ShowsBytes, IsSeated, Becomes, with_desk_of}
+use Rattle.dr_world.specs.Answered.{armed_for, armed_in}
 use Rattle.dr_world.specs.Laws.{away_note, with_time, with_seats}
 use Rattle.dr_world.specs.Ends.{IsDoneAtEnd, note_by}
 use Rattle.dr_world.specs.Nodes.{AllStandIn, seat_of, seats_of}
@@ -133,6 +138,16 @@ StepsTo step old note new =
     → AllStand new
     → IsSeated plan certificate (contents new).seats
     × ∥ Becomes plan certificate b step (noted note) (contents new) ∥₁)
+
+-- Why a world doesn't go on with a step: there was no memory; or the step came to a store that
+-- failed, and that wasn't told to refuse.
+abbrev pub EndsStep : {L : Type 0} {l : Ghosts L}
+    → bytes.WorldStep → World L l → World L l → WorldFault → Type 0
+EndsStep step old new why =
+    (why ≡ cause.Memory)
+    ⊎ ((why ≡ cause.Store)
+    × ((note : StepNote) × StepsTo step old note new × (noted note ≡ bytes.Refused ledger.Store)
+    × (armed_for (armed_in old.nodes) step ≡ false)))
 
 -- ---- at links
 

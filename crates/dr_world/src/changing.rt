@@ -1,9 +1,12 @@
 //! All nodes of a world take another plan at once.
-ghost use Rattle.std.specs.Prelude.{◌≡◌, ◌↔◌, IfErr, IfOk, IsTrue, OnOk, option_copied};
+ghost use Rattle.std.specs.Prelude.{◌≡◌, ◌≢◌, ◌↔◌, IfErr, IfOk, IsTrue, OnOk, option_copied};
 ghost use Rattle.dr_ledger.specs.Adopting.{IsFit};
-ghost use Rattle.dr_world.specs.Adopted.{AllTake, AreNodes, Finds, HasGoneOver, LooksAt, TakesAt};
-ghost use Rattle.dr_world.specs.Adopted.{is_on, some_is_on};
+ghost use Rattle.dr_ledger.specs.declared.fault.LedgerFault.TheVariants.{Memory as LackedMemory};
+ghost use Rattle.dr_world.specs.Adopted.{AllTake, AreNodes, Finds, HasGoneOver, IsHalted, LooksAt};
+ghost use Rattle.dr_world.specs.Adopted.{TakesAt, is_on, some_is_on};
 ghost use Rattle.dr_world.specs.Reports.{AreSameNodes, IsSameNode};
+ghost use Rattle.dr_world.specs.declared.fault.WorldFault.TheVariants.{HalfAdopted as HalfFault};
+ghost use Rattle.dr_world.specs.declared.fault.WorldFault.TheVariants.{Memory as MemoryFault};
 
 use crate::calls::is_over_at;
 use crate::fault::WorldFault;
@@ -69,7 +72,11 @@ pub(crate) fn are_nodes(plan: &Plan, names: &[Text]) -> bool
 }
 
 /// What a ledger's fault in an adoption is to the world.
-fn fault_of(fault: LedgerFault) -> WorldFault {
+fn fault_of(fault: LedgerFault) -> WorldFault
+    ensures memory { fault ≡ LackedMemory → result ≡ MemoryFault }
+    ensures half { fault ≢ LackedMemory → result ≡ HalfFault }
+    ensures why { IsHalted result }
+{
     match fault {
         LedgerFault::Memory => WorldFault::Memory,
         _ => WorldFault::HalfAdopted,
@@ -85,6 +92,7 @@ fn look_at<L: Ledger>(
     ensures looks { IfOk result (λ found.
         LooksAt next.now.plan name.now nodes.old found nodes.new) }
     ensures same { IfErr result (λ fault. AreSameNodes nodes.old nodes.new) }
+    ensures why { IfErr result IsHalted }
 {
     let Some(node) = nodes.get_mut(name) else {
         return Err(WorldFault::HalfAdopted);
@@ -103,8 +111,9 @@ pub fn look_at_all<L: Ledger>(
     names: &[Text],
     next: &Sealed,
 ) -> Result<Change, WorldFault>
-    ensures { IfOk result (λ change.
+    ensures finds { IfOk result (λ change.
         Finds next.now.plan names.now nodes.old change nodes.new) }
+    ensures why { IfErr result IsHalted }
 {
     for name in names {
         match look_at(nodes, name, next)? {
@@ -124,6 +133,7 @@ fn test_fit<L: Ledger>(node: &mut Node<L>, next: &Sealed) -> Result<(), WorldFau
     ensures fit { OnOk result
         (L.stands node.new.desk.ledger
         → IsFit next.now.plan (L.site node.new.desk.ledger).name (L.book node.new.desk.ledger)) }
+    ensures why { IfErr result IsHalted }
 {
     match node.unfit(next) {
         Ok(None) => Ok(()),
@@ -140,7 +150,9 @@ fn test_fit<L: Ledger>(node: &mut Node<L>, next: &Sealed) -> Result<(), WorldFau
 /// Errors: HalfAdopted, where its store fails, or it has a row that doesn't fit, which it hadn't
 /// when it was looked at; Memory.
 fn go_over<L: Ledger>(alloc: Global, node: &mut Node<L>, next: &Sealed) -> Result<(), WorldFault>
-    ensures { OnOk result (HasGoneOver next.now.plan next.now.certificate node.old node.new) }
+    ensures goes { OnOk result
+        (HasGoneOver next.now.plan next.now.certificate node.old node.new) }
+    ensures why { IfErr result IsHalted }
 {
     test_fit(node, next)?;
     let own = match Site::of(alloc, next, node.site().name()) {
@@ -161,8 +173,9 @@ fn take_at<L: Ledger>(
     name: &Text,
     next: &Sealed,
 ) -> Result<(), WorldFault>
-    ensures { OnOk result
+    ensures takes { OnOk result
         (TakesAt next.now.plan next.now.certificate name.now nodes.old nodes.new) }
+    ensures why { IfErr result IsHalted }
 {
     let Some(node) = nodes.get_mut(name) else {
         return Err(WorldFault::HalfAdopted);
@@ -177,8 +190,9 @@ pub fn take_all<L: Ledger>(
     names: &[Text],
     next: &Sealed,
 ) -> Result<(), WorldFault>
-    ensures { OnOk result
+    ensures take { OnOk result
         (AllTake next.now.plan next.now.certificate names.now nodes.old nodes.new) }
+    ensures why { IfErr result IsHalted }
 {
     for name in names {
         take_at(alloc, nodes, name, next)?;

@@ -9,7 +9,7 @@ ghost use Rattle.dr_world.specs.Laws.{RequeueIsShown, StrangerIsSkipped, SubmitI
 ghost use Rattle.dr_world.specs.Laws.{TickIsShown, UnderWayStays};
 ghost use Rattle.dr_world.specs.Orders.{DeedsAloneAreDone};
 ghost use Rattle.dr_world.specs.Played.{ChangesGoOn, ClaimsOfCodeCanFail, DeedsKeepTheHeadline};
-ghost use Rattle.dr_world.specs.Played.{EventsAloneLead};
+ghost use Rattle.dr_world.specs.Played.{DeedsEndEarly, EventsAloneLead};
 ghost use Rattle.dr_world.specs.Played.{FitScriptsAreOwnRuns, FitScriptsKeepTheClaims};
 ghost use Rattle.dr_world.specs.Played.{StepsAloneRun, StepsGoOn, WhatEntersIsThere, WritesGoOn};
 
@@ -97,6 +97,11 @@ pub fn claims_of_code_can_fail<L: Ledger>(_world: &World<L>)
 /// Where no other maker's product is named, just what is ordered is done, and nothing is refused.
 pub fn deeds_alone_are_done()
     ensures { DeedsAloneAreDone }
+{}
+
+/// Memory may always lack, and a store may fail in a change of plan; nothing else ends a run early.
+pub fn deeds_end_early()
+    ensures { DeedsEndEarly }
 {}
 
 /// A script in which other products write is a run of a world of ours, of the ends whose peers are

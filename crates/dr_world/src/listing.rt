@@ -1,10 +1,13 @@
 //! What is read of one of several nodes, by its name.
-ghost use Rattle.std.specs.Prelude.{◌≡◌, ◌++◌, IfOk, OnOk, length};
+ghost use Rattle.std.specs.Prelude.{◌≡◌, ◌≢◌, ◌++◌, IfErr, IfOk, OnOk, length};
+ghost use Rattle.dr_ledger.specs.declared.fault.LedgerFault.TheVariants.{Memory as LackedMemory};
 ghost use Rattle.dr_ledger_report.specs.Reports.{name_line, report_of};
 ghost use Rattle.dr_world.specs.Reports.{AreNamesOf, AreSameNodes, AreWritten, HasReport};
-ghost use Rattle.dr_world.specs.Reports.{IsListingOf, IsNeededIn, IsSameNode, ListsBook, books_of};
-ghost use Rattle.dr_world.specs.Reports.{foreign_line};
+ghost use Rattle.dr_world.specs.Reports.{IsListingOf, IsNeededIn, IsSameNode, IsUnread, ListsBook};
+ghost use Rattle.dr_world.specs.Reports.{books_of, foreign_line};
 ghost use Rattle.dr_world.specs.Nodes.{AllStandIn};
+ghost use Rattle.dr_world.specs.declared.fault.WorldFault.TheVariants.{Memory as MemoryFault};
+ghost use Rattle.dr_world.specs.declared.fault.WorldFault.TheVariants.{Store as StoreFault};
 
 use crate::fault::WorldFault;
 use crate::speaking::is_among;
@@ -27,7 +30,11 @@ pub struct Listing {
 }
 
 /// A reading call's fault: Memory, or Store.
-fn fault_of(fault: LedgerFault) -> WorldFault {
+fn fault_of(fault: LedgerFault) -> WorldFault
+    ensures memory { fault ≡ LackedMemory → result ≡ MemoryFault }
+    ensures store { fault ≢ LackedMemory → result ≡ StoreFault }
+    ensures why { IsUnread result }
+{
     match fault {
         LedgerFault::Memory => WorldFault::Memory,
         _ => WorldFault::Store,
@@ -62,6 +69,7 @@ pub fn list_at<L: Ledger>(
     ensures lists { IfOk result (λ o.
         AllStandIn nodes.new → ListsBook (books_of nodes.old name.now) o) }
     ensures same { AreSameNodes nodes.old nodes.new }
+    ensures early { IfErr result IsUnread }
 {
     let Some(node) = nodes.get_mut(name) else {
         return Ok(None);
@@ -84,6 +92,7 @@ pub fn has_body_at<L: Ledger>(
     ensures has { IfOk result (λ o.
         AllStandIn nodes.new → IsNeededIn (books_of nodes.old name.now) uid.now o) }
     ensures same { AreSameNodes nodes.old nodes.new }
+    ensures early { IfErr result IsUnread }
 {
     let Some(node) = nodes.get_mut(name) else {
         return Ok(None);
@@ -149,6 +158,7 @@ fn report_at<L: Ledger>(
         → HasReport others.now (books_of nodes.old name.now) name.now out.old.items
         out.new.items) }
     ensures same { AreSameNodes nodes.old nodes.new }
+    ensures early { IfErr result IsUnread }
 {
     let Some(listing) = list_at(nodes, name)? else {
         return Err(WorldFault::Memory);
@@ -174,6 +184,7 @@ pub fn report_each<L: Ledger>(
         (AllStandIn nodes.new
         → AreWritten others.now (books_of nodes.old) names.now out.old.items out.new.items) }
     ensures same { AreSameNodes nodes.old nodes.new }
+    ensures early { IfErr result IsUnread }
 {
     for name in names {
         report_at(nodes, others, name, out)?;

@@ -1,7 +1,8 @@
 //! Steps, changes of plan and what other products write and do, played from the beginning, over
 //! ledgers in memory.
 ghost use Rattle.std.specs.Prelude.{◌≡◌, ◌⊎◌, ◌↔◌, ◌∷◌, ◌++◌, [], Contains, IfErr, IfOk, IsTrue};
-ghost use Rattle.std.specs.Prelude.{List, None, OnOk};
+ghost use Rattle.std.specs.Prelude.{List, None, OnOk, Some, length};
+ghost use Rattle.std.specs.Vec.{vec_len};
 ghost use Rattle.dr_base.specs.Texts.{Text as Words};
 ghost use Rattle.dr_plan_model.specs.Plans.{NamesNoNode};
 ghost use Rattle.dr_world.specs.Orders.{AreOrdered, IsChangeOrder, IsOrderedRun, IsPassedOver};
@@ -13,6 +14,7 @@ ghost use Rattle.dr_world.specs.declared.deed.Deed.{Deed as DeedValue};
 ghost use Rattle.dr_world.specs.declared.deed.Deed.TheVariants as deeds_of;
 ghost use Rattle.dr_world.specs.declared.order.WorldOrder.TheVariants as orders_of;
 ghost use Rattle.dr_world_script.specs.declared.foreign.Foreign.TheVariants as foreign_of;
+ghost use Rattle.dr_world.specs.declared.fault.WorldFault.{WorldFault as FaultValue};
 ghost use Rattle.dr_world.specs.declared.fault.WorldFault.TheVariants.{Memory as MemoryFault};
 ghost use Rattle.dr_world.specs.declared.fault.WorldFault.TheVariants.{WrongLedgers as WrongFault};
 
@@ -55,7 +57,8 @@ fn ledgers_of(
     sealed: &Sealed,
     names: &[Text],
 ) -> Result<Vec<MemoryLedger>, WorldFault>
-    ensures { IfErr result (λ fault. (fault ≡ MemoryFault)
+    ensures each { IfOk result (λ ledgers. vec_len ledgers ≡ length names.now) }
+    ensures why { IfErr result (λ fault. (fault ≡ MemoryFault)
         ⊎ ((fault ≡ WrongFault)
         × (name : Words)
         × Contains names.now name
@@ -101,6 +104,7 @@ fn take_step(world: &mut World<Refusing<MemoryLedger>>, step: &Step) -> Result<S
         PlaysOn (deeds_of.Step step.now) [] world.old world.new) }
     ensures whole { IfOk result (λ note. world.new.lost ≡ None) }
     ensures memory { IfErr result (λ fault. fault ≡ MemoryFault) }
+    ensures lost { IfErr result (λ fault. (own : FaultValue) × (world.new.lost ≡ Some own)) }
 {
     match world.step(step) {
         Ok(note) => Ok(note),
@@ -336,7 +340,7 @@ fn do_all(
 
 /// Whether an order tells a store to refuse.
 fn is_refusal(order: &WorldOrder) -> bool
-    ensures { IsTrue result → IsRefusalOrder order.now }
+    ensures { IsTrue result ↔ IsRefusalOrder order.now }
 {
     match order {
         WorldOrder::Deed(Deed::Step(Step::RefuseStore { .. })) => true,
@@ -346,7 +350,7 @@ fn is_refusal(order: &WorldOrder) -> bool
 
 /// Whether one of the orders does.
 fn has_refusal(orders: &[WorldOrder]) -> bool
-    ensures { IsTrue result → OrdersRefusal orders.now }
+    ensures { IsTrue result ↔ OrdersRefusal orders.now }
 {
     for order in orders {
         if is_refusal(order) {
@@ -360,7 +364,8 @@ fn has_refusal(orders: &[WorldOrder]) -> bool
 /// is all that can lack.
 fn cause_of(fault: WorldFault, orders: &[WorldOrder]) -> WorldFault
     requires { EndsEarly (OrdersChange orders.now) fault }
-    ensures { EndsEarly (OrdersChange orders.now × OrdersRefusal orders.now) result }
+    ensures early { EndsEarly (OrdersChange orders.now × OrdersRefusal orders.now) result }
+    ensures told { OrdersRefusal orders.now → result ≡ fault }
 {
     if has_refusal(orders) {
         return fault;

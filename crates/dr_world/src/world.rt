@@ -10,7 +10,7 @@ ghost use Rattle.dr_world_tie.specs.ByteWorlds.{Forget, Late, Open};
 ghost use Rattle.dr_world_tie.specs.ByteWorlds.{Push, Refuse, Release, Requestor, Requeue, Restart};
 ghost use Rattle.dr_world_tie.specs.ByteWorlds.{Submit, Tick};
 ghost use Rattle.dr_world.specs.declared.steps.StepNote.TheVariants.{Done as WasDone};
-ghost use Rattle.dr_world.specs.Answered.{IsAnswered, IsUnanswered, armed_in};
+ghost use Rattle.dr_world.specs.Answered.{IsAnswered, armed_in};
 ghost use Rattle.dr_world.specs.Ends.{named, note_by};
 ghost use Rattle.dr_world.specs.Laws.{away_note};
 ghost use Rattle.dr_world.specs.Nodes.{event_at, over_at, push_at as pushed_at};
@@ -18,9 +18,9 @@ ghost use Rattle.dr_world.specs.declared.deed.Deed.TheVariants as deeds;
 ghost use Rattle.dr_world.specs.declared.fault.WorldFault.{WorldFault as FaultValue};
 ghost use Rattle.dr_world.specs.Played.{HoldsThrough, PlaysOn};
 ghost use Rattle.dr_world.specs.Runs.{StepsOn, HoldsAfter, HoldsAfterAll, Leads, step_of};
-ghost use Rattle.dr_world.specs.Reports.{IsNeededIn, IsReported, ListsBook, books_of};
+ghost use Rattle.dr_world.specs.Reports.{IsNeededIn, IsReported, IsUnread, ListsBook, books_of};
 ghost use Rattle.dr_world.specs.Restarted.{AllFarHear, FarHears};
-ghost use Rattle.dr_world.specs.Whole.{AllStand, Calls, GivesUp, HasTicked, IsSameWorld};
+ghost use Rattle.dr_world.specs.Whole.{AllStand, Calls, EndsStep, GivesUp, HasTicked, IsSameWorld};
 ghost use Rattle.dr_world.specs.Whole.{IsToldToRefuse, LetsGoOf, Meets, Puts, StaysAwayFrom};
 ghost use Rattle.dr_world.specs.Whole.{StepsTo, Submits};
 ghost use Rattle.dr_world.specs.Whole.{noted};
@@ -338,6 +338,7 @@ impl<L: Ledger> World<L> {
         ensures lists { IfOk result (λ o.
             AllStand self.new → ListsBook (books_of self.old.nodes name.now) o) }
         ensures same { IsSameWorld self.old self.new }
+        ensures early { IfErr result IsUnread }
     {
         list_at(&mut self.nodes, name)
     }
@@ -350,6 +351,7 @@ impl<L: Ledger> World<L> {
         ensures has { IfOk result (λ o.
             AllStand self.new → IsNeededIn (books_of self.old.nodes name.now) uid.now o) }
         ensures same { IsSameWorld self.old self.new }
+        ensures early { IfErr result IsUnread }
     {
         has_body_at(&mut self.nodes, name, uid)
     }
@@ -363,6 +365,7 @@ impl<L: Ledger> World<L> {
             (AllStand self.new
             → IsReported others.now (books_of self.old.nodes) out.old.items out.new.items) }
         ensures same { IsSameWorld self.old self.new }
+        ensures early { IfErr result IsUnread }
     {
         let names = names_in(self.alloc, &self.nodes)?;
         report_each(&mut self.nodes, others, names.as_slice(), out)
@@ -429,7 +432,8 @@ impl<L: LetsGo> World<Refusing<L>> {
         ensures after { (fault : FaultValue) → result ≡ Err fault → self.new.lost ≡ Some fault }
         ensures answered { IfOk result (λ note.
             IsAnswered (armed_in self.old.nodes) (step_of step.now) (noted note)) }
-        ensures early { self.old.lost ≡ None → IfErr result IsUnanswered }
+        ensures early { self.old.lost ≡ None
+            → IfErr result (EndsStep (step_of step.now) self.old self.new) }
         ensures whole { IfOk result (λ note. self.new.lost ≡ None) }
     {
         if let Some(fault) = self.lost {
@@ -452,7 +456,7 @@ impl<L: LetsGo> World<Refusing<L>> {
         ensures steps { IfOk result (λ note. StepsTo (step_of step.now) self.old note self.new) }
         ensures answered { IfOk result (λ note.
             IsAnswered (armed_in self.old.nodes) (step_of step.now) (noted note)) }
-        ensures early { IfErr result IsUnanswered }
+        ensures early { IfErr result (EndsStep (step_of step.now) self.old self.new) }
     {
         let is_armed = is_armed_for(&self.nodes, step);
         match self.perform(step) {
@@ -467,6 +471,7 @@ impl<L: LetsGo> World<Refusing<L>> {
     pub fn play(&mut self, steps: &[Step]) -> Result<(), WorldFault>
         ensures leads { OnOk result (Leads (mapped step_of steps.now) self.old self.new) }
         ensures headline { OnOk result (HoldsAfterAll self.old self.new) }
+        ensures after { (fault : FaultValue) → result ≡ Err fault → self.new.lost ≡ Some fault }
     {
         for step in steps {
             self.step(step)?;

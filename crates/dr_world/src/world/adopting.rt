@@ -1,7 +1,9 @@
 //! A plan that all nodes of a world take at once.
-ghost use Rattle.std.specs.Prelude.{◌≡◌, ◌∷◌, [], Err, IfOk, None, OnOk, Some, length};
+ghost use Rattle.std.specs.Prelude.{◌≡◌, ◌∷◌, [], Err, IfErr, IfOk, None, OnOk, Some, length};
 ghost use Rattle.std.specs.Vec.{vec_len};
-ghost use Rattle.dr_world.specs.Adopted.{AddsAbsent, AllJoin, AreJoining, ChangesTo, Took};
+ghost use Rattle.dr_world.specs.Adopted.{AddsAbsent, AllJoin, AreJoining, ChangesTo, EndsChange};
+ghost use Rattle.dr_world.specs.Adopted.{JoinInOrder, Took};
+ghost use Rattle.dr_world.specs.Founding.{IsUnfit, SomeIsUnfit};
 ghost use Rattle.dr_world.specs.Played.{HoldsThrough, PlaysOn};
 ghost use Rattle.dr_world.specs.declared.deed.Deed.TheVariants as deeds;
 ghost use Rattle.dr_world.specs.declared.fault.WorldFault.{WorldFault as FaultValue};
@@ -42,7 +44,8 @@ fn joining_in<L: Ledger>(
     plan: &Plan,
     nodes: &BTreeMap<Text, Node<L>>,
 ) -> Result<Vec<Text>, AllocError>
-    ensures { IfOk result (λ names. AreJoining plan.now nodes.now names.items) }
+    ensures joining { IfOk result (λ names. AreJoining plan.now nodes.now names.items) }
+    ensures order { IfOk result (λ names. JoinInOrder plan.now nodes.now names.items) }
 {
     let all = names_of(alloc, plan)?;
     let mut names = Vec::new(alloc);
@@ -61,8 +64,11 @@ fn join_all<L: Ledger + Drop>(
     nodes: &mut BTreeMap<Text, Node<Refusing<L>>>,
 ) -> Result<(), WorldFault>
     requires { length names.now ≡ vec_len ledgers }
-    ensures { OnOk result
+    ensures joins { OnOk result
         (AllJoin next.now.plan next.now.certificate names.now nodes.old nodes.new) }
+    ensures unfit { IfErr result
+        (SomeIsUnfit (IsUnfit L.trusts L.stands L.book L.site L.failed) next.now.plan
+        next.now.certificate names.now ledgers.items) }
 {
     let mut place = 0;
     for ledger in ledgers {
@@ -77,7 +83,10 @@ impl<L: Ledger> World<L> {
     ///
     /// Errors: Memory.
     pub fn joining(&self, next: &Plan) -> Result<Vec<Text>, AllocError>
-        ensures { IfOk result (λ names. AreJoining next.now self.now.nodes names.items) }
+        ensures joining { IfOk result (λ names.
+            AreJoining next.now self.now.nodes names.items) }
+        ensures order { IfOk result (λ names.
+            JoinInOrder next.now self.now.nodes names.items) }
     {
         joining_in(self.alloc, next, &self.nodes)
     }
@@ -92,7 +101,8 @@ impl<L: Ledger + Drop> World<Refusing<L>> {
     /// further call answers that fault.
     ///
     /// Errors: WrongLedgers, where there is another number of ledgers than of nodes that join, one
-    /// that isn't empty, or one of another site; HalfAdopted, where a store fails; Memory.
+    /// that isn't empty, or one of another site; Store, where the store of one of these fails;
+    /// HalfAdopted, where that of a node fails; Memory.
     pub fn adopt(&mut self, next: &Sealed, joining: Vec<L>) -> Result<Change, WorldFault>
         ensures changes { IfOk result (λ change.
             ChangesTo next.now.plan next.now.certificate self.old change self.new) }
@@ -103,6 +113,10 @@ impl<L: Ledger + Drop> World<Refusing<L>> {
         ensures lost { (fault : FaultValue) → self.old.lost ≡ Some fault
             → (result ≡ Err fault) × (self.new ≡ self.old) }
         ensures after { (fault : FaultValue) → result ≡ Err fault → self.new.lost ≡ Some fault }
+        ensures why { self.old.lost ≡ None
+            → IfErr result
+            (EndsChange (IsUnfit L.trusts L.stands L.book L.site L.failed) next.now.plan
+            next.now.certificate joining.items self.new) }
         ensures whole { IfOk result (λ change. self.new.lost ≡ None) }
     {
         let _plan = next.plan();
@@ -125,8 +139,11 @@ impl<L: Ledger + Drop> World<Refusing<L>> {
 
     /// The same, where no fault ended an earlier step.
     fn change(&mut self, next: &Sealed, joining: Vec<L>) -> Result<Change, WorldFault>
-        ensures { IfOk result (λ change.
+        ensures changes { IfOk result (λ change.
             ChangesTo next.now.plan next.now.certificate self.old change self.new) }
+        ensures why { IfErr result
+            (EndsChange (IsUnfit L.trusts L.stands L.book L.site L.failed) next.now.plan
+            next.now.certificate joining.items self.new) }
     {
         let names = names_in(self.alloc, &self.nodes)?;
         if some_is_on(&self.nodes, &self.wires) {
@@ -162,8 +179,12 @@ impl<L: Ledger + Drop> World<Refusing<L>> {
         joins: &[Text],
         joining: Vec<L>,
     ) -> Result<(), WorldFault>
-        ensures { OnOk result
+        requires { JoinInOrder next.now.plan self.old.nodes joins.now }
+        ensures took { OnOk result
             (Took next.now.plan next.now.certificate names.now joins.now self.old self.new) }
+        ensures why { IfErr result
+            (EndsChange (IsUnfit L.trusts L.stands L.book L.site L.failed) next.now.plan
+            next.now.certificate joining.items self.new) }
     {
         if joins.len() != joining.len() {
             drop(joining);

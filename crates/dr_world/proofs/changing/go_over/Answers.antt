@@ -17,8 +17,8 @@ adopt-requires-clause-fit g c =
     (λ (n : Text). IsFit c.args.next.now.plan n (g.L.Ledger.book c.test_fit.new.node.desk.ledger))
     (sym named) (c.in_ok-test_fit.ensures.fit stands)
 
-pub returns-in-Ok-adopt : goal.returns-in-Ok-adopt
-returns-in-Ok-adopt g c =
+pub returns-in-Ok-adopt-clause-goes : goal.returns-in-Ok-adopt-clause-goes
+returns-in-Ok-adopt-clause-goes g c =
     let named = named_own c.test_fit.new.node c.in-Ok.own.name
     ((c.in-Ok.ensures).0 ∙ (c.name.ensures ∙ ap (λ (s : Part). s.name) c.site.ensures)) in
     let e = c.in-Ok-adopt.ensures in

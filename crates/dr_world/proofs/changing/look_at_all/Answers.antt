@@ -21,8 +21,8 @@ loop-name-preserved g c =
     c.args.names.now c.loop-name.name-index c.name-item.result c.loop-name-test.true c.name-item.is
     c.loop-name.invariant look
 
-pub returns-in-Some : goal.returns-in-Some
-returns-in-Some g c =
+pub returns-in-Some-clause-finds : goal.returns-in-Some-clause-finds
+returns-in-Some-clause-finds g c =
     let look = subst
     (λ (f : Option Pair).
     LooksAt c.args.next.now.plan c.name-item.result c.loop-name.nodes f c.look_at.new.nodes)
@@ -32,6 +32,6 @@ returns-in-Some g c =
     c.loop-name.invariant c.in-Some.uid c.in-Some.dest c.in_ok-node-in-Some.node
     c.in_ok-node-in-Some.ensures look
 
-pub returns : goal.returns
-returns g c = fit_all c.args.next.now.plan c.args.nodes.now c.loop-name.nodes c.args.names.now
+pub returns-clause-finds : goal.returns-clause-finds
+returns-clause-finds g c = fit_all c.args.next.now.plan c.args.nodes.now c.loop-name.nodes c.args.names.now
     c.loop-name.name-index c.loop-name-test.false c.loop-name.invariant

@@ -15,7 +15,7 @@ returns-in_err-ledgers-clause-early c =
     let of_plan : AreNames c.args.sealed.now.plan c.in_ok-names.names.items = subst (λ (p : Network). AreNames p c.in_ok-names.names.items) c.plan-plan.ensures.same c.in_ok-names.ensures in
     let names : AreNames c.args.sealed.now.plan c.as_slice.result.now = subst (λ (ns : List Text). AreNames c.args.sealed.now.plan ns) (sym c.as_slice.ensures.value) of_plan in
     passed_on c.from_residual-in_err-ledgers.result c.in_err-ledgers.field-0.0 (EndsEarly (OrdersChange c.args.orders.now × OrdersRefusal c.args.orders.now)) c.from_residual-in_err-ledgers.ensures.1
-    (unfounded_early (OrdersChange c.args.orders.now × OrdersRefusal c.args.orders.now) c.args.sealed.now.plan c.as_slice.result.now c.in_err-ledgers.field-0.0 names c.in_err-ledgers.ensures)
+    (unfounded_early (OrdersChange c.args.orders.now × OrdersRefusal c.args.orders.now) c.args.sealed.now.plan c.as_slice.result.now c.in_err-ledgers.field-0.0 names c.in_err-ledgers.ensures.why)
 
 pub returns-clause-runs : goal.returns-clause-runs
 returns-clause-runs c =

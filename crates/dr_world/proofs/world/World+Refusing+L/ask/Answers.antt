@@ -15,4 +15,6 @@ returns-in-Ok-clause-answered g c =
     went_on_answered (armed_in c.args.self.now.nodes) (step_of c.args.step.now) c.is_armed_for-is_armed.result c.in-Ok.note c.answered.result c.is_armed_for-is_armed.ensures c.answered.ensures
 
 pub returns-in-Ok-clause-early : goal.returns-in-Ok-clause-early
-returns-in-Ok-clause-early g c = went_no_further c.is_armed_for-is_armed.result c.in-Ok.note c.answered.result c.answered.ensures
+returns-in-Ok-clause-early g c =
+    let P : Note → Type 0 = λ note. StepsTo (step_of c.args.step.now) c.args.self.now note c.perform.new.self in
+    went_no_further P (armed_in c.args.self.now.nodes) (step_of c.args.step.now) c.is_armed_for-is_armed.result c.in-Ok.note c.answered.result c.is_armed_for-is_armed.ensures c.answered.ensures c.in-Ok.ensures
