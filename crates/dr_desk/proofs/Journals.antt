@@ -1,8 +1,8 @@
 -- What the journal of a shared desk says when the sharing ends.
-use Rattle.std.proofs.Common.{◌≡◌, ◌+◌, ◌≤◌, ℕ, List, All, sym, ap, ◌∙◌, subst, take, length, arith}
+use Rattle.std.proofs.Common.{◌≡◌, ◌+◌, ◌≤◌, ℕ, List, All, refl, sym, ap, ◌∙◌, subst, take, length, arith}
 use Rattle.std.proofs.Common.{map as mapped}
 use Rattle.std.specs.List.{AllByRecursion, flat_map}
-use Rattle.std.proofs.lemmas.List.{length-map, length-take, take_all}
+use Rattle.std.proofs.lemmas.List.{length-take, take_all}
 use Rattle.dr_ledger.specs.declared.fault.LedgerFault.{LedgerFault}
 use Rattle.dr_ledger.specs.declared.fault.LedgerFault.TheVariants as ledger
 use Rattle.dr_ledger.specs.declared.item.Entry.{Entry}
@@ -11,11 +11,14 @@ use Rattle.dr_ledger.specs.Histories.{IsJournalled}
 use Rattle.dr_ledger.specs.Replies.{entry_of}
 use Rattle.dr_ledger.specs.SiteRoutes.{site_routing}
 use Rattle.dr_site.specs.Parts.{Part}
+use Rattle.dr_desk.specs.declared.closing.AgreeFault.{AgreeFault}
+use Rattle.dr_desk.specs.declared.closing.AgreeFault.TheVariants as agree
 use Rattle.dr_desk.specs.declared.closing.CloseFault.{CloseFault}
 use Rattle.dr_desk.specs.declared.closing.CloseFault.TheVariants as fault
 use Rattle.dr_desk.specs.declared.closing.ReceiptMismatch.TheVariants.{Beginning, OtherLine, Falling, Twice}
 use Rattle.dr_desk.specs.declared.receipt.Receipt.{Receipt}
 use Rattle.dr_desk.specs.Agreeing.{AreApart, Fails, IsOfLine, Rises, numbers, unread_by}
+use Rattle.dr_desk.specs.Paging.{Differs, unagreed_by}
 use Rattle.dr_desk.specs.Growing.{BeginWith, Grows}
 
 pub grows_by : (first : List Line) (before : ℕ) (old new : Book) (n : ℕ) → new ≡ old → Grows first before old.lines n → Grows first before new.lines n
@@ -66,12 +69,20 @@ fails_by {X} f why A B xs ys a b same read begins h =
     begun O C D fault.Store n = tt
     begun O C D fault.Memory n = tt
 
--- where the journal begins with the first lines, no fewer are shown of it
-pub no_fewer : (first ls : List Line) (before : ℕ) (shown : List Entry) → before ≡ length first → shown ≡ mapped entry_of ls → BeginWith first ls → before ≤ length shown
-no_fewer first ls before shown k s h =
-    let all : length shown ≡ length ls = ap length s ∙ length-map ls entry_of in
+-- why a sharing doesn't end, as it is told of receipts that weren't found to agree
+pub ends_by : {X : Type 0} (f : X → List Receipt) (why : AgreeFault) (is : CloseFault) (A B : Type 0) (xs ys : List X) (a : List Entry) → is ≡ unagreed_by why → xs ≡ ys → (B → A) →
+    Differs why A (AllByRecursion (λ x. All (IsOfLine a) (f x)) xs) (AllByRecursion (λ x. Rises (f x)) xs) (AreApart (flat_map (λ x. numbers (f x)) xs)) →
+    Fails is B (AllByRecursion (λ x. All (IsOfLine a) (f x)) ys) (AllByRecursion (λ x. Rises (f x)) ys) (AreApart (flat_map (λ x. numbers (f x)) ys))
+ends_by {X} f (agree.Read why) is A B xs ys a told same begins h = unread_fails why is _ _ _ _ told
+ends_by {X} f (agree.Close why) is A B xs ys a told same begins h =
+    let P : CloseFault → Type 0 = λ w. Fails w B (AllByRecursion (λ x. All (IsOfLine a) (f x)) ys) (AllByRecursion (λ x. Rises (f x)) ys) (AreApart (flat_map (λ x. numbers (f x)) ys)) in
+    subst P (sym told) (fails_by f why A B xs ys a a same refl begins h)
+
+-- where the journal begins with the first lines, it has no fewer
+pub no_fewer : (first ls : List Line) (before : ℕ) → before ≡ length first → BeginWith first ls → before ≤ length ls
+no_fewer first ls before k h =
     let some : length (take (length first) ls) ≡ length first = ap length h in
-    let least = length-take (length first) ls in omega (arith, k, all, some, least)
+    let least = length-take (length first) ls in omega (arith, k, some, least)
 
 pub at_most : (first : List Line) (before : ℕ) (ls : List Line) (n total sum : ℕ) → Grows first before ls n → before + total ≡ n → sum ≤ total → length first + sum ≤ length ls
 at_most first before ls n total sum g t less =
@@ -84,9 +95,8 @@ just first before ls n total sum g t same =
     let l : length ls ≡ n = g.2 in omega arith
 
 -- the journal of a desk that is being shared
-pub starts : (first : List Line) (shown : List Entry) (old new : Book) (n : ℕ) → first ≡ old.lines → new ≡ old → shown ≡ mapped entry_of old.lines → n ≡ length shown → Grows first n new.lines n
-starts first shown old new n f e s l =
+pub starts : (first : List Line) (old new : Book) (n : ℕ) → first ≡ old.lines → new ≡ old → n ≡ length old.lines → Grows first n new.lines n
+starts first old new n f e l =
     let here : new.lines ≡ first = ap (λ (b : Book). b.lines) e ∙ sym f in
-    let copied : shown ≡ mapped entry_of first = s ∙ ap (mapped entry_of) (sym f) in
-    let long : length shown ≡ length first = ap length copied ∙ length-map first entry_of in
-    (ap (take (length first)) here ∙ take_all (length first) first (omega arith), l ∙ long, ap length here ∙ sym (l ∙ long))
+    let long : n ≡ length first = l ∙ ap length (sym f) in
+    (ap (take (length first)) here ∙ take_all (length first) first (omega arith), long, ap length here ∙ sym long)

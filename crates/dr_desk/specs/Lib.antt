@@ -6,6 +6,7 @@ pub mod Changes
 pub mod Endings
 pub mod Growing
 pub mod Laws
+pub mod Paging
 pub mod Reading
 pub mod Receipts
 pub mod Sharings

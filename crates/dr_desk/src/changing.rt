@@ -14,7 +14,7 @@ ghost use Rattle.dr_plan_model.specs.Networks.{Network};
 ghost use Rattle.dr_plan_model.specs.Plans.{NamesNoNode};
 
 use crate::adopting::{AdoptFault, take, test_rows, untaken};
-use crate::closing::{CloseFault, ReceiptMismatch, agree, joined};
+use crate::closing::{AgreeFault, CloseFault, ReceiptMismatch, agree, joined};
 use crate::desk::Desk;
 use crate::held::HeldDesk;
 use crate::pass::Pass;
@@ -22,6 +22,7 @@ use crate::shared::SharedDesk;
 use crate::sharing::Sharing;
 use dr_cert::Sealed;
 use dr_ledger::Ledger;
+use dr_ledger_views::Views;
 use dr_site::Site;
 use std::alloc::Global;
 use std::sync::Mutex;
@@ -73,7 +74,7 @@ fn disagreed(why: CloseFault) -> ChangeFault
     }
 }
 
-impl<L: Ledger, B: Sharing> HeldDesk<L, B> {
+impl<L: Views, B: Sharing> HeldDesk<L, B> {
     /// Compares the receipts of the passes with the journal.
     fn compare(&mut self, alloc: Global, passes: &[Pass<B>]) -> Result<(), ChangeFault>
         ensures same { IsAsItWas L.site L.book L.bodies L.stands L.failed self.old.desk.ledger
@@ -96,13 +97,10 @@ impl<L: Ledger, B: Sharing> HeldDesk<L, B> {
             (AreApart (flat_map (λ p. numbers p.receipts.items) passes.now))
             plan why self.old.desk.ledger self.new.desk.ledger) }
     {
-        let lines = match self.desk.lines() {
-            Ok(lines) => lines,
-            Err(why) => return Err(ChangeFault::Plan(untaken(why))),
-        };
-        match agree(alloc, self.before, lines.as_slice(), passes) {
+        match agree(alloc, &mut self.desk.ledger, self.before, passes) {
             Ok(()) => Ok(()),
-            Err(why) => Err(disagreed(why)),
+            Err(AgreeFault::Read(why)) => Err(ChangeFault::Plan(untaken(why))),
+            Err(AgreeFault::Close(why)) => Err(disagreed(why)),
         }
     }
 
@@ -226,7 +224,7 @@ impl<L: Ledger, B: Sharing> HeldDesk<L, B> {
     }
 }
 
-impl<L: Ledger, B: Sharing> SharedDesk<L, B> {
+impl<L: Views, B: Sharing> SharedDesk<L, B> {
     /// The desk takes the next plan, and is no longer shared: who has it by value is alone with
     /// what lies under the lock, and no call is under way. Its calls are those of the next site
     /// from then on. The receipts of the passes that came are compared with the journal as by

@@ -1,14 +1,20 @@
 //! The end of a sharing: whether the passes agree with the journal, and what they count.
 ghost use Rattle.std.specs.Prelude.{◌≡◌, ◌<◌, ◌≤◌, ◌+◌, ◌^◌, ◌↔◌, ◌++◌, All, IfErr, IfOk, IsTrue};
-ghost use Rattle.std.specs.Prelude.{OnOk, length, sum_by};
+ghost use Rattle.std.specs.Prelude.{OnOk, length, map as mapped, sum_by};
 ghost use Rattle.std.specs.List.{AllByRecursion, flat_map};
+ghost use Rattle.dr_ledger.specs.Replies.{HasRisen, entry_of};
+ghost use Rattle.dr_ledger.specs.declared.fault.LedgerFault.TheVariants.{Store};
+ghost use Rattle.dr_desk.specs.Adoptions.{IsAsItWas};
 ghost use Rattle.dr_desk.specs.Agreeing.{AreApart, Fails, IsOfLine, Rises, numbers, unread_by};
+ghost use Rattle.dr_desk.specs.Paging.{Differs, unagreed_by};
 
 use crate::desk::Desk;
+use crate::paging::compare_lines;
 use crate::pass::{Made, Pass};
-use crate::receipt::{Receipt, records};
+use crate::receipt::Receipt;
 use crate::sharing::Sharing;
-use dr_ledger::{Entry, LedgerFault};
+use dr_ledger::LedgerFault;
+use dr_ledger_views::Views;
 use std::alloc::{AllocError, Global};
 use std::collections::{BTreeSet, VecDeque};
 use std::sync::ledger::{Book, Share};
@@ -49,6 +55,26 @@ impl From<AllocError> for CloseFault {
     }
 }
 
+/// Why receipts aren't found to agree with a journal: it can't be read, or that of the end of a
+/// sharing.
+#[derive(Clone, Copy, PartialEq, Eq, Debug)]
+pub(crate) enum AgreeFault {
+    Read(LedgerFault),
+    Close(CloseFault),
+}
+
+impl From<AllocError> for AgreeFault {
+    ghost use Rattle.std.specs.Prelude.{◌≡◌};
+    ghost use Rattle.dr_desk.specs.declared.closing.AgreeFault.TheVariants.{Close};
+    ghost use Rattle.dr_desk.specs.declared.closing.CloseFault.TheVariants.{Memory};
+
+    ghost from_gives = { λ _ e. e ≡ Close Memory };
+
+    fn from(_: AllocError) -> AgreeFault {
+        AgreeFault::Close(CloseFault::Memory)
+    }
+}
+
 /// A desk that is no longer shared, the sum of the lines that the passes count which came back, and
 /// how many passes were made.
 #[derive(Drop)]
@@ -67,7 +93,7 @@ pub struct NotClosed<L, B: Sharing> {
 }
 
 /// Why a sharing doesn't end whose journal can't be read.
-pub(crate) fn unread(why: LedgerFault) -> CloseFault
+fn unread(why: LedgerFault) -> CloseFault
     ensures { result ≡ unread_by why }
 {
     match why {
@@ -81,73 +107,78 @@ pub(crate) fn unread(why: LedgerFault) -> CloseFault
     }
 }
 
+/// Why a sharing doesn't end whose receipts aren't found to agree.
+pub(crate) fn unagreed(why: AgreeFault) -> CloseFault
+    ensures { result ≡ unagreed_by why }
+{
+    match why {
+        AgreeFault::Read(fault) => unread(fault),
+        AgreeFault::Close(fault) => fault,
+    }
+}
+
 /// Whether the journal still has as many lines as before, and the receipts agree with it.
-pub(crate) fn agree<B: Sharing>(
+pub(crate) fn agree<B: Sharing, L: Views>(
     alloc: Global,
+    ledger: &mut L,
     before: u64,
-    lines: &[Entry],
     passes: &[Pass<B>],
-) -> Result<(), CloseFault>
-    ensures begins { OnOk result (before ≤ length lines.now) }
-    ensures of_lines { OnOk result
-        (AllByRecursion (λ p. All (IsOfLine lines.now) p.receipts.items) passes.now) }
+) -> Result<(), AgreeFault>
+    ensures same { IsAsItWas L.site L.book L.bodies L.stands L.failed ledger.old ledger.new }
+    ensures begins { OnOk result (L.stands ledger.new
+        → before ≤ length (L.book ledger.new).lines) }
+    ensures of_lines { OnOk result (L.stands ledger.new
+        → AllByRecursion (λ p.
+        All (IsOfLine (mapped entry_of (L.book ledger.new).lines)) p.receipts.items) passes.now) }
     ensures rise { OnOk result (AllByRecursion (λ p. Rises p.receipts.items) passes.now) }
     ensures apart { OnOk result (AreApart (flat_map (λ p. numbers p.receipts.items) passes.now)) }
-    ensures fault { IfErr result (λ why. Fails why (before ≤ length lines.now)
-        (AllByRecursion (λ p. All (IsOfLine lines.now) p.receipts.items) passes.now)
+    ensures fault { IfErr result (λ why. L.stands ledger.new
+        → Differs why (before ≤ length (L.book ledger.new).lines)
+        (AllByRecursion (λ p.
+        All (IsOfLine (mapped entry_of (L.book ledger.new).lines)) p.receipts.items) passes.now)
+        (AllByRecursion (λ p. Rises p.receipts.items) passes.now)
+        (AreApart (flat_map (λ p. numbers p.receipts.items) passes.now))) }
+    ensures risen { IfErr result (λ why. why ≡ AgreeFault.Read Store
+        → HasRisen (L.failed ledger.old) (L.failed ledger.new)) }
+{
+    let count = match ledger.line_count() {
+        Ok(count) => count,
+        Err(why) => return Err(AgreeFault::Read(why)),
+    };
+    if count < before {
+        return Err(AgreeFault::Close(CloseFault::Receipt(ReceiptMismatch::Beginning)));
+    }
+    let all = numbers_of(alloc, passes)?;
+    match compare_lines(ledger, count, all.as_slice(), passes) {
+        Ok(()) => {}
+        Err(why) => return Err(why),
+    }
+    match are_in_order(alloc, all.as_slice(), passes) {
+        Ok(()) => Ok(()),
+        Err(why) => Err(AgreeFault::Close(why)),
+    }
+}
+
+/// Whether the numbers of the receipts rise in each pass, and none stands twice; `all` are they.
+fn are_in_order<B: Sharing>(
+    alloc: Global,
+    all: &[u64],
+    passes: &[Pass<B>],
+) -> Result<(), CloseFault>
+    requires { all.now ≡ flat_map (λ p. numbers p.receipts.items) passes.now }
+    ensures rise { OnOk result (AllByRecursion (λ p. Rises p.receipts.items) passes.now) }
+    ensures apart { OnOk result (AreApart (flat_map (λ p. numbers p.receipts.items) passes.now)) }
+    ensures fault { IfErr result (λ why. Fails why (Unit {0}) (Unit {0})
         (AllByRecursion (λ p. Rises p.receipts.items) passes.now)
         (AreApart (flat_map (λ p. numbers p.receipts.items) passes.now))) }
 {
-    if (lines.len() as u64) < before {
-        return Err(CloseFault::Receipt(ReceiptMismatch::Beginning));
-    }
-    if !are_of_lines(lines, passes) {
-        return Err(CloseFault::Receipt(ReceiptMismatch::OtherLine));
-    }
     if !rise(passes) {
         return Err(CloseFault::Receipt(ReceiptMismatch::Falling));
     }
-    let all = numbers_of(alloc, passes)?;
-    if !are_apart(alloc, all.as_slice())? {
+    if !are_apart(alloc, all)? {
         return Err(CloseFault::Receipt(ReceiptMismatch::Twice));
     }
     Ok(())
-}
-
-/// Whether the receipt is of the line at its number.
-fn is_of_line(lines: &[Entry], receipt: &Receipt) -> bool
-    ensures { IsTrue result ↔ IsOfLine lines.now receipt.now }
-{
-    if receipt.number == 0 {
-        return false;
-    }
-    match lines.get((receipt.number - 1) as usize) {
-        None => false,
-        Some(line) => records(line, receipt),
-    }
-}
-
-fn each_is_of_line(lines: &[Entry], receipts: &VecDeque<Receipt>) -> bool
-    ensures { IsTrue result ↔ All (IsOfLine lines.now) receipts.now.items }
-{
-    for i in 0..receipts.len() {
-        if !is_of_line(lines, &receipts[i]) {
-            return false;
-        }
-    }
-    true
-}
-
-fn are_of_lines<B: Sharing>(lines: &[Entry], passes: &[Pass<B>]) -> bool
-    ensures { IsTrue result
-        ↔ AllByRecursion (λ p. All (IsOfLine lines.now) p.receipts.items) passes.now }
-{
-    for pass in passes {
-        if !each_is_of_line(lines, &pass.receipts) {
-            return false;
-        }
-    }
-    true
 }
 
 fn each_rises(receipts: &VecDeque<Receipt>) -> bool

@@ -17,7 +17,7 @@ ghost use Rattle.dr_desk.specs.Endings.{EndsAgreed, EndsUnagreed};
 ghost use Rattle.dr_desk.specs.Growing.{Grows};
 ghost use Rattle.dr_desk.specs.Reading.{Answered, AreHoldings, HasFailed};
 
-use crate::closing::{Closed, NotClosed, agree, joined, unread};
+use crate::closing::{Closed, NotClosed, agree, joined, unagreed};
 use crate::desk::Desk;
 use crate::holdings::Holdings;
 use crate::pass::{Made, Pass, TooManyPasses};
@@ -27,6 +27,7 @@ use dr_cert::Sealed;
 use dr_ledger::{
     Arrived, Entry, Item, Ledger, LedgerFault, LetsGo, MOST_LINES, NextRow, Outcome, Progress,
 };
+use dr_ledger_views::Views;
 use std::alloc::Global;
 use std::sync::ledger::{Book, Share};
 
@@ -324,7 +325,9 @@ impl<L: Ledger, B: Sharing> HeldDesk<L, B> {
     {
         self.desk.failures().saturating_add(self.full)
     }
+}
 
+impl<L: Views, B: Sharing> HeldDesk<L, B> {
     /// Ends the sharing, as `SharedDesk::close`.
     pub(crate) fn close(
         self,
@@ -350,19 +353,9 @@ impl<L: Ledger, B: Sharing> HeldDesk<L, B> {
             rest,
         } = self;
         let mut desk = desk;
-        let lines = match desk.lines() {
-            Ok(lines) => lines,
-            Err(why) => {
-                return Err(NotClosed {
-                    fault: unread(why),
-                    desk,
-                    passes,
-                });
-            }
-        };
-        if let Err(fault) = agree(alloc, before, lines.as_slice(), passes.as_slice()) {
+        if let Err(why) = agree(alloc, &mut desk.ledger, before, passes.as_slice()) {
             return Err(NotClosed {
-                fault,
+                fault: unagreed(why),
                 desk,
                 passes,
             });

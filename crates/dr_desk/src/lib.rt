@@ -17,6 +17,7 @@ mod desk;
 mod held;
 mod holdings;
 pub mod laws;
+mod paging;
 mod pass;
 pub mod receipt;
 mod shared;

@@ -1,9 +1,12 @@
 //! What a caller holds of an accepted call.
 ghost use Rattle.std.specs.Prelude.{◌≡◌, ◌↔◌, IfOk, IsTrue, length};
 ghost use Rattle.dr_desk.specs.Receipts.{Records, arrival_of};
+ghost use Rattle.dr_ledger.specs.Replies.{entry_of};
+ghost use Rattle.dr_ledger_history.specs.Lines.{line_of};
 
 use dr_base::Text;
-use dr_ledger::{Arrived, Entry, Item, Outcome};
+use dr_ledger::{Arrived, Instance, Item, Outcome};
+use dr_ledger_history::JournalLine;
 use dr_route::Key;
 use std::alloc::AllocError;
 
@@ -116,34 +119,40 @@ pub(crate) fn forgetting(uid: &Text) -> Result<Call, AllocError>
 }
 
 /// Whether a line of the journal is of that call, with that reply.
-pub(crate) fn records(line: &Entry, receipt: &Receipt) -> bool
-    ensures { IsTrue result ↔ Records line.now receipt.now.call receipt.now.reply }
+pub(crate) fn records(line: &JournalLine, receipt: &Receipt) -> bool
+    ensures { IsTrue result
+        ↔ Records (entry_of (line_of line.now)) receipt.now.call receipt.now.reply }
 {
     match line {
-        Entry::Arrival {
+        JournalLine::Arrival {
             caller,
-            uid,
-            key,
-            length,
+            instance,
             ..
-        } => is_arrival(caller, uid, key, *length, Arrived::New, receipt),
-        Entry::Repeat {
-            caller,
-            uid,
-            key,
-            length,
-        } => is_arrival(caller, uid, key, *length, Arrived::Again, receipt),
-        Entry::Settling {
+        } => records_arrival(caller, instance, Arrived::New, receipt),
+        JournalLine::Repeat { caller, instance } => {
+            records_arrival(caller, instance, Arrived::Again, receipt)
+        }
+        JournalLine::Settling {
             uid,
             dest,
             outcome,
             now,
         } => is_settling(uid, dest, *outcome, *now, receipt),
-        Entry::Requeuing { uid, dest } => is_requeuing(uid, dest, receipt),
-        Entry::Dropping { uid, dest, now } => is_dropping(uid, dest, *now, receipt),
-        Entry::Forgetting { uid } => is_forgetting(uid, receipt),
-        Entry::Adoption => false,
+        JournalLine::Requeuing { uid, dest } => is_requeuing(uid, dest, receipt),
+        JournalLine::Dropping { uid, dest, now } => is_dropping(uid, dest, *now, receipt),
+        JournalLine::Forgetting { uid } => is_forgetting(uid, receipt),
+        JournalLine::Adoption => false,
     }
+}
+
+fn records_arrival(caller: &Text, instance: &Instance, arrived: Arrived, receipt: &Receipt) -> bool
+    ensures { IsTrue result
+        ↔ ((receipt.now.call
+        ≡ Call.Arrival caller.now instance.now.uid instance.now.key instance.now.size)
+        × (receipt.now.reply ≡ Reply.Arrived arrived)) }
+{
+    let Instance { uid, key, size, .. } = instance;
+    is_arrival(caller, uid, key, *size, arrived, receipt)
 }
 
 fn is_arrival(

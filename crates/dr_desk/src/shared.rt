@@ -25,6 +25,7 @@ use crate::sharing::Sharing;
 use dr_base::{Seq, Text};
 use dr_cert::Sealed;
 use dr_ledger::{Arrived, Entry, Item, Ledger, LedgerFault, LetsGo, NextRow, Outcome, Progress};
+use dr_ledger_views::Views;
 use dr_site::Site;
 use std::alloc::Global;
 use std::sync::ledger::Blank;
@@ -39,9 +40,9 @@ pub struct SharedDesk<L: Ledger, B: Sharing> {
     pub(crate) held: Mutex<HeldDesk<L, B>>,
 }
 
-impl<L: Ledger, B: Sharing> SharedDesk<L, B> {
-    /// Shares a desk, whose ledger is of that site. Its lines are counted, and no copy of them is
-    /// kept. Where they can't be read, the desk is handed back.
+impl<L: Views, B: Sharing> SharedDesk<L, B> {
+    /// Shares a desk, whose ledger is of that site. It is asked how many lines it has, and none of
+    /// them is read. Where it can't be asked, the desk is handed back.
     ///
     /// Errors: Store, Memory.
     pub fn new(
@@ -65,16 +66,14 @@ impl<L: Ledger, B: Sharing> SharedDesk<L, B> {
             → (e.0 ≡ Store) ⊎ (e.0 ≡ Memory)) }
     {
         let mut desk = desk;
-        let lines = match desk.lines() {
-            Ok(lines) => lines,
+        let number = match desk.line_count() {
+            Ok(number) => number,
             Err(fault) => {
                 drop(site);
                 return Err((fault, desk));
             }
         };
         let (tally, rest) = blank.open::<B>();
-        let number = lines.len() as u64;
-        drop(lines);
         let held = HeldDesk {
             desk,
             before: number,
@@ -90,6 +89,30 @@ impl<L: Ledger, B: Sharing> SharedDesk<L, B> {
         })
     }
 
+    /// Ends the sharing, where each receipt of the passes agrees with the journal. The desk, and
+    /// where it doesn't end so the passes too, are handed back. The journal is read by pages, from
+    /// the first line on that a receipt is of.
+    ///
+    /// Errors: Receipt, Store, Memory.
+    pub fn close(self, alloc: Global, passes: Vec<Pass<B>>) -> Result<Closed<L>, NotClosed<L, B>>
+        requires { B.all ≡ B.parts }
+        ensures ends { IfOk result (λ c. EndsAgreed L.site L.book L.stands B.site B.first
+            passes.items (λ p. p.receipts.items) (λ p. p.made.count) c.passes c.sum
+            c.desk.ledger) }
+        ensures fails { IfErr result (λ e. EndsUnagreed L.site L.book L.stands B.site B.first
+            passes.items (λ p. p.receipts.items) e.fault e.desk.ledger) }
+        ensures back { IfErr result (λ e. e.passes ≡ passes) }
+    {
+        self.into_held().close(alloc, passes)
+    }
+
+    fn into_held(self) -> HeldDesk<L, B> {
+        let SharedDesk { site: _, held } = self;
+        held.into_inner()
+    }
+}
+
+impl<L: Ledger, B: Sharing> SharedDesk<L, B> {
     /// The site of its ledger.
     pub fn site(&self) -> &Site
         ensures { result.now ≡ self.now.site }
@@ -361,27 +384,6 @@ impl<L: Ledger, B: Sharing> SharedDesk<L, B> {
         ensures { Failing L.site L.book L.bodies L.stands L.failed B.site B.first result }
     {
         self.held.lock(rt).failures()
-    }
-
-    /// Ends the sharing, where each receipt of the passes agrees with the journal. The desk, and
-    /// where it doesn't end so the passes too, are handed back.
-    ///
-    /// Errors: Receipt, Store, Memory.
-    pub fn close(self, alloc: Global, passes: Vec<Pass<B>>) -> Result<Closed<L>, NotClosed<L, B>>
-        requires { B.all ≡ B.parts }
-        ensures ends { IfOk result (λ c. EndsAgreed L.site L.book L.stands B.site B.first
-            passes.items (λ p. p.receipts.items) (λ p. p.made.count) c.passes c.sum
-            c.desk.ledger) }
-        ensures fails { IfErr result (λ e. EndsUnagreed L.site L.book L.stands B.site B.first
-            passes.items (λ p. p.receipts.items) e.fault e.desk.ledger) }
-        ensures back { IfErr result (λ e. e.passes ≡ passes) }
-    {
-        self.into_held().close(alloc, passes)
-    }
-
-    fn into_held(self) -> HeldDesk<L, B> {
-        let SharedDesk { site: _, held } = self;
-        held.into_inner()
     }
 }
 

@@ -5,7 +5,7 @@ use Rattle.dr_desk.proofs.Journals.{starts}
 use Rattle.dr_desk.proofs.shared.SharedDesk.new.Goals as goal
 
 pub invariant_of-held-clause-grows : goal.invariant_of-held-clause-grows
-invariant_of-held-clause-grows g c = λ s. starts _ _ _ _ _ c.requires.first (c.lines.ensures.same s).0 (c.in-Ok.ensures.reply s) c.len-number.ensures
+invariant_of-held-clause-grows g c = λ s. starts _ _ _ _ c.requires.first (c.line_count.ensures.same s).0 (c.in-Ok.ensures.reply s)
 
 pub returns-in-Err-clause-stored : goal.returns-in-Err-clause-stored
 returns-in-Err-clause-stored g c = λ stored. c.in-Err.ensures.counts.has_cause (ap Err stored)
