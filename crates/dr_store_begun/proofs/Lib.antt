@@ -1,3 +1,4 @@
+mod Lagging
 mod Left
 mod Paged
 mod Refused

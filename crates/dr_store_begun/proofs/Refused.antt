@@ -14,7 +14,7 @@ use Rattle.dr_store_past.specs.declared.fault.PastFault.{PastFault}
 use Rattle.dr_store_past.specs.declared.fault.PastFault.TheVariants as past
 use Rattle.dr_store_past.specs.declared.past.LedgerPast.{Ghosts}
 use Rattle.dr_store_past.specs.Lines.{past_in}
-use Rattle.dr_store_begun.specs.Beginning.{IsOnlyRead, IsUnread, IsWhyNotBegun, lines_in}
+use Rattle.dr_store_begun.specs.Beginning.{IsOnlyRead, IsUnread, IsWhyNotBegun, IsWhyNotBegunFrom, lines_in}
 use Rattle.dr_store_begun.specs.Faults.{fault_of_past, fault_of_telling}
 use Rattle.dr_store_begun.proofs.Left.{past_front}
 use Rattle.dr_store_begun.proofs.Paged.{both_taken}
@@ -82,6 +82,7 @@ module _ {P : Type 0} (g : Ghosts P) where
   stopped_on old mid new told after first goes why.Miscounted it = it
   stopped_on old mid new told after first goes why.NoHistory it =
       λ clean is. subst (λ (lines : List Line). IsPast lines empty_book → ⊥) (same_lines old mid first) (it clean (goes clean is))
+  stopped_on old mid new told after first goes why.Beyond it = absurd it
   stopped_on old mid new told after first goes why.Uncounted it = subst (λ (s : Seal). 2 ^ 64 ≤ s.count + 1) first.reach it
   stopped_on old mid new told after first goes why.Memory it = tt
 
@@ -106,3 +107,13 @@ module _ {P : Type 0} (g : Ghosts P) (old new : P) (after more : ℕ) (first : C
       fails (take after lines) other told
       (past_front (take after lines ++ page) (drop (after + more) lines) empty_book
       (subst (λ (ls : List Line). IsPast ls empty_book) whole past)))
+
+module _ {P : Type 0} (g : Ghosts P) (old new : P) (count : ℕ) (told : Type 0) where
+  -- the same of an opening that begins with a balance
+  pub balance_stopped : (fault : BeginFault) → IsWhyNotBegun g old new told fault → IsWhyNotBegunFrom g old new count told fault
+  balance_stopped (why.Unread fault) it = it
+  balance_stopped why.Miscounted it = it
+  balance_stopped why.NoHistory it = it
+  balance_stopped why.Beyond it = absurd it
+  balance_stopped why.Uncounted it = it
+  balance_stopped why.Memory it = it

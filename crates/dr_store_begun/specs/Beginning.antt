@@ -1,5 +1,5 @@
 -- How a past is read, and what an opening begins with.
-use Rattle.std.specs.Prelude.{◌≡◌, ◌+◌, ◌^◌, ◌≤◌, List}
+use Rattle.std.specs.Prelude.{◌≡◌, ◌+◌, ◌^◌, ◌<◌, ◌≤◌, ℕ, List}
 use Rattle.dr_ledger.specs.Books.{Line, empty_book}
 use Rattle.dr_ledger.specs.Histories.{IsPast}
 use Rattle.dr_store_sealed.specs.declared.fault.SealFault.TheVariants as seal
@@ -43,5 +43,12 @@ module _ {P : Type 0} (g : Ghosts P) where
   IsWhyNotBegun old new told why.Miscounted = g.is_clean new → ⊥
   IsWhyNotBegun old new told why.NoHistory =
       g.is_clean new → told → IsPast (lines_in old) empty_book → ⊥
+  IsWhyNotBegun old new told why.Beyond = ⊥
   IsWhyNotBegun old new told why.Uncounted = 2 ^ 64 ≤ (g.reach old).count + 1
   IsWhyNotBegun old new told why.Memory = Unit {0}
+
+  -- the same of an opening that begins with the balance of so many lines, which may be more than
+  -- the past has
+  abbrev pub IsWhyNotBegunFrom : P → P → ℕ → (told : Type 0) → BeginFault → Type 0
+  IsWhyNotBegunFrom old new count told why.Beyond = (g.reach old).count < count
+  IsWhyNotBegunFrom old new count told other = IsWhyNotBegun old new told other

@@ -1,10 +1,13 @@
 -- Laws of what an opening begins with.
-use Rattle.std.specs.Prelude.{◌≡◌, ℕ, List, [], ◌∷◌, codes}
+use Rattle.std.specs.Prelude.{◌≡◌, ◌<◌, ℕ, List, [], ◌∷◌, ◌++◌, codes, length, take}
 use Rattle.dr_ledger.specs.Books.{Adoption, Fold, Line, Requeuing}
 use Rattle.dr_ledger.specs.Histories.{IsBeforeAdoption, IsJournalled}
 use Rattle.dr_ledger.specs.Routings.{Routing}
 use Rattle.dr_ledger_history.specs.Contents.{content, content_of}
 use Rattle.dr_ledger_history.specs.Told.{IsTold}
+use Rattle.dr_ledger_balance.specs.Contents.{IsBalanceOf}
+use Rattle.dr_ledger_balance.specs.Laws.{of_kept}
+use Rattle.dr_ledger_balance.specs.declared.balance.Balance.{Balance}
 use Rattle.dr_store_sealed.specs.declared.fault.SealFault.TheVariants as seal
 use Rattle.dr_store_past.specs.declared.fault.PastFault.TheVariants as past
 use Rattle.dr_store_lists.specs.declared.listing.JournalRow.{JournalRow}
@@ -32,6 +35,28 @@ abbrev pub OthersGoOnAsJournals : Routing → Type 0
 OthersGoOnAsJournals routing =
     (lines : List Line) (notes : List (ℕ × JournalRow))
     → NoneIsOver 0 notes → GoOnUnder routing lines notes → IsJournalled routing (Fold lines)
+
+-- a balance of lines is right still, whatever lines stand behind them
+abbrev pub BalancesStayRight : Type 0
+BalancesStayRight =
+    (lines more : List Line) (b : Balance)
+    → IsBalanceOf lines b → IsBalanceOf (take b.count (lines ++ more)) b
+
+-- one that counts more lines than there are is right of none
+abbrev pub BalancesBeyondAreWrong : Type 0
+BalancesBeyondAreWrong =
+    (lines : List Line) (b : Balance)
+    → length lines < b.count → IsBalanceOf (take b.count lines) b → ⊥
+
+-- the balance of no lines, which says that a node has nothing, is right whatever the lines are
+abbrev pub NoLinesMakeNothing : Type 0
+NoLinesMakeNothing =
+    (lines : List Line) → IsBalanceOf (take 0 lines) (of_kept 0 [])
+
+-- and one that says of no lines that a node keeps something is wrong
+abbrev pub NoLinesKeepNothing : Type 0
+NoLinesKeepNothing =
+    (lines : List Line) → IsBalanceOf (take 0 lines) (of_kept 0 (codes "1.2" ∷ [])) → ⊥
 
 -- Examples: two adoptions are a past, and the third line is the next one; a row that is queued anew
 -- first is none, and no opening begins with it. A want of memory is one refusal, and another fault

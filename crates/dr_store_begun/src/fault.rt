@@ -19,6 +19,9 @@ pub enum BeginFault {
     /// Its lines are no history of a ledger.
     #[error("the lines of the past are no history of a ledger")]
     NoHistory,
+    /// The balance is of more lines than the past has.
+    #[error("the balance is of more lines than the past has")]
+    Beyond,
     /// No number is left for a line behind them.
     #[error("no number is left for a line behind the past")]
     Uncounted,

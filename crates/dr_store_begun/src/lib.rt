@@ -4,10 +4,12 @@
 //! A past is only read. Its lines are read by pages, and none is kept.
 #![tactic(auto)]
 
+mod balanced;
 mod beginning;
 mod fault;
 pub mod laws;
 mod pages;
 
+pub use balanced::begin_from;
 pub use beginning::begin;
 pub use fault::BeginFault;
