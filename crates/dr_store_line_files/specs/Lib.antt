@@ -1,0 +1,4 @@
+pub mod Filed
+pub mod Following
+pub mod Laws
+pub mod Several
