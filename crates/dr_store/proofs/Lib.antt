@@ -11,6 +11,7 @@ pub mod Owns
 pub mod Pasts
 pub mod Readable
 pub mod Replies
+pub mod Sealings
 pub mod Sets
 pub mod Shown
 pub mod Sizes

@@ -55,7 +55,7 @@ no_more : (m : ℕ) → ◌≡◌ {A = List Line} (take m []) []
 no_more m = take_all m [] (omega arith)
 
 -- the first of some lines, and then of what is behind those
-in_two : (q m : ℕ) (lines : List Line) → take m (take q lines) ++ take (m - q) (drop q lines) ≡ take m lines
+pub in_two : (q m : ℕ) (lines : List Line) → take m (take q lines) ++ take (m - q) (drop q lines) ≡ take m lines
 in_two zero m lines =
     let same : m - zero ≡ m = omega arith in
     ap (λ ls. ls ++ take (m - zero) lines) (no_more m) ∙ ap (λ k. take k lines) same

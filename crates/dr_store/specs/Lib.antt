@@ -4,5 +4,6 @@ pub mod Listing
 pub mod Owning
 pub mod Pasts
 pub mod Reading
+pub mod Sealing
 pub mod Standing
 pub mod Surviving

@@ -10,8 +10,10 @@ ghost use Rattle.dr_store_calls.specs.Calling.{IsSafe};
 ghost use Rattle.dr_store.specs.Owning.{AllThatStandAreThere, BodiesAreWhatIsRead, ItsOwnIsThere};
 ghost use Rattle.dr_store.specs.Owning.{OtherBytesAreNotThere, OtherItemsAreNotThere};
 ghost use Rattle.dr_store.specs.Pasts.{BooksAreWhole, NoneSealedIsNoPast};
+ghost use Rattle.dr_store.specs.Sealing.{SealingsLeaveTheBook};
 ghost use Rattle.dr_store.specs.Surviving.{CrashesAreTold, MakesNone, Whatever, Wrote};
 
+use dr_store_past::LedgerPast;
 use dr_store_shelf::Shelf;
 use sqlite::{Alter, Connection};
 
@@ -73,4 +75,11 @@ pub fn other_bytes_are_no_data_set()
     ensures own { ItsOwnIsThere }
     ensures bytes { OtherBytesAreNotThere }
     ensures items { OtherItemsAreNotThere }
+{}
+
+/// Whatever a crash leaves of a sealing has the whole book from before, over its past with the
+/// lines behind it.
+pub fn a_sealing_leaves_the_book<P: LedgerPast>(past: &P)
+    ensures { SealingsLeaveTheBook (P.LedgerPast.holds past.now)
+        (P.LedgerPast.has_written past.now) }
 {}

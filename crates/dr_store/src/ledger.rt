@@ -1,5 +1,5 @@
 //! The ledger of one node, in the tables of a database, with its data sets on a shelf.
-ghost use Rattle.std.specs.Prelude.{◌≡◌, ◌≤◌, ◌^◌, Ok, false};
+ghost use Rattle.std.specs.Prelude.{◌≡◌, ◌≤◌, ◌^◌, List, Ok, false};
 ghost use Rattle.std.specs.FinMap as map;
 ghost use Rattle.sqlite.specs.Held.{state};
 ghost use Rattle.sqlite.specs.State.{HasCleanDisk};
@@ -7,9 +7,10 @@ ghost use Rattle.dr_ledger.specs.Adopting.{Adopting, site_after};
 ghost use Rattle.dr_ledger.specs.Bodies.{HasAll, OnlyTakes};
 ghost use Rattle.dr_ledger.specs.Items.{instance_of};
 ghost use Rattle.dr_ledger.specs.Replies.{AreKept, Arrives, Counts, Drops, Forgets, Reads};
-ghost use Rattle.dr_ledger.specs.Replies.{Requeues, Settles};
+ghost use Rattle.dr_ledger.specs.Replies.{PremiseLasts, Requeues, Settles};
 ghost use Rattle.dr_ledger.specs.SiteRoutes.{site_routing};
 ghost use Rattle.dr_store_schema.specs.Books.{book_of};
+ghost use Rattle.dr_store_past.specs.declared.lines.PastLine.{PastLine as LineValue};
 ghost use Rattle.dr_store_past.specs.Lines.{past_in};
 ghost use Rattle.dr_store_calls.specs.Calling.{IsSafe};
 ghost use Rattle.dr_store_calls.specs.Knowing.{IsAccepted};
@@ -18,11 +19,14 @@ ghost use Rattle.dr_store.specs.Owning.{IsCovered, KeepsOwn, LetsGoOf, LosesNone
 ghost use Rattle.dr_store.specs.Reading.{FindsUnreadable, KeptAreThere, LeavesAsRead};
 ghost use Rattle.dr_store.specs.Reading.{QueuedAreThere, TellsWhereNeeded, TellsWhereQueued};
 ghost use Rattle.dr_store.specs.Pasts.{whole_book};
+ghost use Rattle.dr_store.specs.Sealing.{LeavesWithLines};
 ghost use Rattle.dr_store.specs.Surviving.{AdoptsWhole, MakesLedger, TakesOver, Wrote};
 
 use crate::counting::{counted, lines_before, next_after};
 use crate::listing::{first_unfit, list_arrivals, list_kept, list_rows, list_rows_and_keys};
 use crate::reading::{admit, due_row, has_data_set, has_in, next_job, read_row};
+use crate::sealing::seal_lines;
+use crate::seals::Seals;
 use crate::telling::{list_lines, tell_behind, tell_whole};
 use dr_base::{Seq, Text};
 use dr_cert::Sealed;
@@ -503,6 +507,45 @@ impl<S: Alter, B: Shelf, P: LedgerPast> SqlLedger<S, B, P> {
         take_over(&mut self.site, own, &answer);
         answer
     }
+
+    /// Lets the tables' lines leave for the past, as `Seals::seal` says. Whatever a crash leaves of
+    /// the tables at any moment, the past has the lines of it.
+    fn seal_in(&mut self) -> Result<(), LedgerFault>
+        ensures same { B.Shelf.is_clean self.new.shelf × P.LedgerPast.is_clean self.new.past
+            → IsSafe (state S.Store self.new.conn)
+            → (whole_book P.LedgerPast.all_lines (state S.Store self.new.conn).committed.trees
+            ≡ whole_book P.LedgerPast.all_lines (state S.Store self.old.conn).committed.trees)
+            × (bodies_with (B.Shelf.read_of self.new.shelf)
+            (state S.Store self.new.conn).committed.trees
+            ≡ bodies_with (B.Shelf.read_of self.old.shelf)
+            (state S.Store self.old.conn).committed.trees) }
+        ensures stood { B.Shelf.is_clean self.new.shelf × P.LedgerPast.is_clean self.new.past
+            → IsSafe (state S.Store self.new.conn)
+            → IsSafe (state S.Store self.old.conn) }
+        ensures lasts { B.Shelf.is_clean self.new.shelf × P.LedgerPast.is_clean self.new.past
+            → PremiseLasts result (HasCleanDisk (state S.Store self.old.conn))
+            (HasCleanDisk (state S.Store self.new.conn)) (IsSafe (state S.Store self.old.conn))
+            (IsSafe (state S.Store self.new.conn)) }
+        ensures left { (before : List LineValue)
+            → P.LedgerPast.holds self.old.past before
+            → LeavesWithLines (P.LedgerPast.holds self.new.past)
+            (P.LedgerPast.has_written self.new.past) before self.old.next self.old.site
+            (state S.Store self.old.conn) (state S.Store self.new.conn) }
+        ensures clean { B.Shelf.is_clean self.new.shelf × P.LedgerPast.is_clean self.new.past
+            → B.Shelf.is_clean self.old.shelf × P.LedgerPast.is_clean self.old.past }
+        ensures counts { Counts result self.old.failures self.new.failures }
+        ensures site { self.new.site ≡ self.old.site }
+    {
+        let answer = seal_lines(
+            &mut self.conn,
+            &mut self.past,
+            self.alloc,
+            &self.site,
+            self.next,
+        );
+        self.failures = counted(&answer, self.failures);
+        answer
+    }
 }
 
 /// The next site takes over, where its adoption was accepted.
@@ -662,6 +705,17 @@ impl<S: Alter, B: Shelf, P: LedgerPast> LetsGo for SqlLedger<S, B, P> {
         let answer = is_over(&mut self.conn, self.alloc, uid);
         self.failures = counted(&answer, self.failures);
         answer
+    }
+}
+
+impl<S, B, P> Seals for SqlLedger<S, B, P>
+where
+    S: Alter,
+    B: Shelf,
+    P: LedgerPast,
+{
+    fn seal(&mut self) -> Result<(), LedgerFault> {
+        self.seal_in()
     }
 }
 

@@ -14,6 +14,9 @@ mod ledger;
 mod listing;
 mod past;
 mod reading;
+mod sealing;
+mod seals;
 mod telling;
 
 pub use ledger::SqlLedger;
+pub use seals::Seals;

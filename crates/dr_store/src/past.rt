@@ -36,7 +36,7 @@ fn fault_of_file(fault: PastFileFault) -> LedgerFault
 }
 
 /// What a ledger answers where its past didn't.
-fn fault_of_past(fault: PastFault) -> LedgerFault
+pub fn fault_of_past(fault: PastFault) -> LedgerFault
     ensures { result ≡ fault_of_past fault }
 {
     match fault {

@@ -79,7 +79,7 @@ fn tell_notes<S: Alter>(
 }
 
 /// The lines of the tables' journal, in order.
-fn tell_journal<S: Alter>(
+pub fn tell_journal<S: Alter>(
     conn: &mut Connection<S>,
     alloc: Global,
 ) -> Result<Seq<JournalLine>, LedgerFault>
