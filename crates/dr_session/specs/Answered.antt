@@ -1,6 +1,9 @@
 -- Worked figures of what follows an answer of the desk, and what a requestor's end keeps then,
--- whatever it is like; of the echo that goes out; and of the inputs that faults make.
+-- whatever it is like; of what pends as it leaves, and of a data set without room; of the echo that
+-- goes out; and of the inputs that faults make.
 use Rattle.std.specs.Prelude.{◌≡◌, ℕ, Bool, true, List, [], ◌∷◌, Option, Some, None, Ok, Err, false}
+use Rattle.std.specs.Prelude.{Result, option_map}
+use Rattle.std.specs.declared.alloc.AllocError.{AllocError}
 use Rattle.dr_base.specs.Standard.{image, verification}
 use Rattle.dr_base.specs.Syntaxes.{syntax_uid}
 use Rattle.dr_base.specs.declared.syntax.Syntax.TheVariants.{Explicit, Implicit}
@@ -8,9 +11,12 @@ use Rattle.dr_base.specs.Texts.{Text}
 use Rattle.dr_ulstate.specs.declared.table.State.TheVariants.{Sta5, Sta6}
 use Rattle.dr_pdu.specs.declared.fault.PduFault.TheVariants as pdu_fault
 use Rattle.dr_pdu.specs.declared.pdu.AssociateRj.{AssociateRj}
+use Rattle.dr_dimse.specs.declared.command.Command.{Command}
 use Rattle.dr_dimse.specs.declared.command.Command.TheVariants.{EchoRq, StoreRsp}
 use Rattle.dr_dimse.specs.declared.message.Awaited.{Awaited}
-use Rattle.dr_dimse.specs.declared.message.Awaited.TheVariants.{AnswerTo, Nothing}
+use Rattle.dr_dimse.specs.declared.message.Awaited.TheVariants.{AnswerTo, Nothing, Requests}
+use Rattle.dr_dimse.specs.declared.message.Body.TheVariants as body
+use Rattle.dr_dimse.specs.Taking.{MessageStage, InCommand, InData}
 use Rattle.dr_ledger.specs.declared.content.NextRow.TheVariants.{Whole}
 use Rattle.dr_ledger.specs.declared.fault.LedgerFault.TheVariants as ledger
 use Rattle.dr_ledger.specs.declared.item.Outcome.TheVariants.{Broken, NoContext}
@@ -18,18 +24,20 @@ use Rattle.dr_nego.specs.declared.agreed.Agreed.{Agreed}
 use Rattle.dr_nego.specs.declared.agreed.Pair.{Pair}
 use Rattle.dr_session.specs.declared.ends.Core.{Core}
 use Rattle.dr_session.specs.declared.ends.Ended.TheVariants.{Closed, Rejected}
+use Rattle.dr_session.specs.declared.ends.Input.{Input}
 use Rattle.dr_session.specs.declared.ends.Input.TheVariants as input
+use Rattle.dr_session.specs.declared.ends.LinkAction.{LinkAction}
 use Rattle.dr_session.specs.declared.ends.Moment.{Moment}
 use Rattle.dr_session.specs.declared.ends.Over.TheVariants as ends_as
 use Rattle.dr_session.specs.declared.ends.Pending.{Pending}
 use Rattle.dr_session.specs.declared.ends.Requested.TheVariants.{Store}
 use Rattle.dr_session.specs.declared.ends.Told.TheVariants as told
 use Rattle.dr_session.specs.Desks.{DeskAnswer, Settle, Settling, Upcoming, First}
-use Rattle.dr_session.specs.Ends.{echoes_by, echoing}
-use Rattle.dr_session.specs.Figures.{abort, asked_for, awaited, calls, closes, on_answer, placed}
-use Rattle.dr_session.specs.Figures.{requestor, shown, shows}
+use Rattle.dr_session.specs.Ends.{CrowdsIn, Terminal, echoes_by, echoing}
+use Rattle.dr_session.specs.Figures.{abort, acceptor, asked_for, awaited, calls, closes, end_after}
+use Rattle.dr_session.specs.Figures.{on_answer, pended, placed, requestor, shown, shows}
 use Rattle.dr_session.specs.Messages.{command_pdus}
-use Rattle.dr_session.specs.Plays.{input_of}
+use Rattle.dr_session.specs.Plays.{input_of, without_data}
 use Rattle.dr_session.specs.Reactions.{Reaction, assembling, awaiting, due, effect, store_pdus}
 use Rattle.dr_session.specs.Reactions.{turn, write}
 use Rattle.dr_session.specs.Statuses.{an_image, uid}
@@ -63,6 +71,10 @@ kept pending listens dry last =
 pub record Agreements (c : Core) (at : Moment) (agreed : Agreed) : Type 0 where
   pub taken : shows (turn at (awaited (requestor Sta5) c) (told.Agreement (Ok agreed)))
       ≡ shown 6 [] (ends_as.Ended Closed) None
+  -- the end goes by it
+  pub terms : option_map (λ (after : Core). after.agreed)
+      (end_after (turn at (awaited (requestor Sta5) c) (told.Agreement (Ok agreed))))
+      ≡ Some (Some agreed)
 
 -- ---- a response settles its row
 
@@ -166,6 +178,47 @@ pub record RejectedRows (c : Core) (at : Moment) (rj : AssociateRj) (first : Tex
       (on_answer (refused_at c at rj (First (Ok (Some first)))) (Settling (Err ledger.Store)))
       ≡ shown 1 closes ends_as.Desk None
   pub memory : refused_at c at rj (First (Err ledger.Memory)) ≡ Fails
+
+-- ---- what pends as the end leaves
+
+-- the connection ends, or the end aborts
+abbrev pub left_so : Core → Moment → Pending → Input → DeskAnswer → Reaction
+left_so c at p why answer =
+    on_answer (turn at (pended p (requestor Sta6) c) (told.Plain why)) answer
+
+-- It is settled as broken. Then nothing pends, and the end is over as the association ended, but
+-- where a store failed.
+pub record Leavings (c : Core) (at : Moment) (p : Pending) : Type 0 where
+  pub settled : shows (left_so c at p input.Ended (Settling (Ok tt)))
+      ≡ shown 1 [] (ends_as.Ended Closed) None
+  pub none : keeps (left_so c at p input.Ended (Settling (Ok tt)))
+      ≡ kept None c.assembly.awaited c.dry c.last
+  pub settled_before : shows (left_so c at p input.Ended (Settling (Err ledger.NotWaiting)))
+      ≡ shown 1 [] (ends_as.Ended Closed) None
+  pub store_fails : shows (left_so c at p input.Ended (Settling (Err ledger.Store)))
+      ≡ shown 1 [] ends_as.Desk None
+  pub memory : left_so c at p input.Ended (Settling (Err ledger.Memory)) ≡ Fails
+  pub aborts : shows (left_so c at p input.AbortAsked (Settling (Ok tt)))
+      ≡ shown 13 (abort 0 0) (ends_as.Ended Aborted) None
+  pub aborts_failing : shows (left_so c at p input.AbortAsked (Settling (Err ledger.Store)))
+      ≡ shown 13 (abort 0 0) ends_as.Desk None
+
+-- ---- no room for more of a data set
+
+-- the end is in the midst of a message
+abbrev pub in_midst : MessageStage → Core → Core
+in_midst stage c = record (placed (acceptor Sta6) c) { assembly = assembling Requests stage }
+
+-- What came of the data set is let go, and it counts as too large from then on. A command stays.
+-- Nothing is written, and the end goes on.
+pub record Crowdings (c : Core) (command : Command) (text : List ℕ) : Type 0 where
+  pub let_go : (without_data (in_midst (InData 5 command (body.Whole text)) c)).assembly.stage
+      ≡ InData 5 command body.TooLarge
+  pub command_stays : without_data (in_midst (InCommand 5 text) c) ≡ in_midst (InCommand 5 text) c
+  pub goes_on : (old new : Terminal) (result : Result (List LinkAction) AllocError)
+      → CrowdsIn (Some (in_midst (InData 5 command (body.Whole text)) c)) old result new
+      → (result ≡ Ok [])
+      × (new.core ≡ Some (in_midst (InData 5 command body.TooLarge) c))
 
 -- ---- an echo
 

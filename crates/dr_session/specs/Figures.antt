@@ -24,6 +24,7 @@ use Rattle.dr_base.specs.Standard.{application_context, image}
 use Rattle.dr_nego.specs.Figures.{archive_site, gate, context, request, proposal}
 use Rattle.dr_plan_sound.specs.Samples.{archive}
 use Rattle.dr_nego.specs.Answering.{acceptance_of}
+use Rattle.dr_base.specs.Syntaxes.{syntax_uid}
 use Rattle.dr_base.specs.declared.syntax.Syntax.TheVariants.{Explicit}
 use Rattle.dr_pdu.specs.declared.pdu.Pdu.TheVariants as pdu
 use Rattle.dr_session.specs.declared.ends.Requested.{Requested}
@@ -181,6 +182,17 @@ pub record Requests (c : Core) (now : ℕ) (rq : AssociateRq) : Type 0 where
       (turn (moment now 0) (placed (acceptor Sta2) (at_archive c))
       (told.Plain (input.Request proposal))))
       ≡ Some gate
+  -- images in the context 1, and PDUs of at most 16,384 bytes
+  pub terms : option_map (λ (after : Core). after.agreed)
+      (end_after
+      (turn (moment now 0) (placed (acceptor Sta2) (at_archive c))
+      (told.Plain (input.Request proposal))))
+      ≡ Some
+      (Some
+      (record {
+        pairs = record { id = 1; class = image; syntax = syntax_uid Explicit } ∷ [];
+        limit = 16384;
+      }))
   -- the 256 associations of a node are open: the service provider rejects
   pub full : Does (at_archive c) (moment now 256) (acceptor Sta2 ∷ [])
       (told.Plain (input.Request proposal)) 13 (rejection 2 3 2) (Rejected (rj 2 3 2))

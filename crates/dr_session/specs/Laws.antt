@@ -43,9 +43,12 @@ use Rattle.dr_pdu.specs.Written.{Fits}
 use Rattle.dr_site.specs.Parts.{Part}
 use Rattle.dr_site.specs.Sites.{IsSite}
 use Rattle.dr_nego.specs.Agreeing.{AssociateRq}
+use Rattle.dr_nego.specs.Answering.{acceptance_of}
+use Rattle.dr_nego.specs.Proposing.{echo_proposal}
 use Rattle.dr_session.specs.Fits.{InputFits}
 use Rattle.dr_session.specs.Terms.{Serves, CoreServes, ToldServes}
-use Rattle.dr_session.specs.Ends.{Terminal, IsEndOver, Meets, HearsOf, accepting, requesting}
+use Rattle.dr_session.specs.Ends.{Terminal, IsEndOver, Meets, HearsOf, OpensTo, accepting, begins}
+use Rattle.dr_session.specs.Ends.{requesting, requesting_echo}
 use Rattle.dr_session.specs.Messages.{command_pdus}
 use Rattle.dr_session.specs.Reactions.{Reaction, turn, quiet, effect, says, stores, leaves}
 use Rattle.dr_session.specs.Reactions.{aborted, abort_pdu, event_of, store_pdus, write}
@@ -300,6 +303,20 @@ AbortsAreTheTables =
     → (acted Aa1 at told c ≡ leaves at (write (abort_by Aa1 e told ∷ []) ∷ []) (aborted c))
     × (acted Aa7 at told c ≡ Ends (effect (write (abort_by Aa7 e told ∷ []) ∷ []) (aborted c)))
     × (acted Aa8 at told c ≡ leaves at (write (abort_by Aa8 e told ∷ []) ∷ []) (aborted c))
+
+-- ---- lengths
+
+-- An end takes P-DATA-TF PDUs of just the length that its request or its acceptance names.
+pub record TakesAsTold : Type 0 where
+  pub asks : (site : Part) (dest : Text) (now : ℕ) (x : Terminal × List LinkAction)
+      → OpensTo site dest now (Ok x)
+      → (rq : AssociateRq)
+      × (x.1 ≡ write (pdu.AssociateRq rq ∷ []) ∷ [])
+      × (x.0.ear.limit ≡ rq.max_pdu)
+  pub echoes : (caller called : Text) (now : ℕ)
+      → (requesting_echo caller called now).ear.limit ≡ (echo_proposal caller called).max_pdu
+  pub accepts : (site : Part) (rq : AssociateRq) (now : ℕ)
+      → (begins site.max_pdu (accepting site now)).ear.limit ≡ (acceptance_of rq site).max_pdu
 
 -- ---- want of memory
 

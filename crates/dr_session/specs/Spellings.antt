@@ -6,7 +6,8 @@ use Rattle.std.specs.Prelude.{None, Some}
 use Rattle.dr_base.specs.Texts.{Text}
 use Rattle.dr_ulstate.specs.declared.table.State.TheVariants.{Sta6}
 use Rattle.dr_pdu.specs.declared.pdu.Pdu.TheVariants as pdu
-use Rattle.dr_dimse.specs.declared.command.Command.TheVariants.{EchoRq}
+use Rattle.dr_dimse.specs.declared.command.Command.{Command}
+use Rattle.dr_dimse.specs.declared.command.Command.TheVariants.{EchoRq, EchoRsp, Other, StoreRsp}
 use Rattle.dr_nego.specs.declared.agreed.Agreed.{Agreed}
 use Rattle.dr_nego.specs.Agreeing.{AssociateRq}
 use Rattle.dr_nego.specs.Answering.{acceptance_of}
@@ -43,17 +44,33 @@ abbrev pub transfer : ℕ → ℕ → ℕ → ℕ → List ℕ → List ℕ
 transfer len value context header fragment =
     4 ∷ 0 ∷ 0 ∷ 0 ∷ 0 ∷ len ∷ 0 ∷ 0 ∷ 0 ∷ value ∷ context ∷ header ∷ fragment
 
+-- the element (0000,0000) of a command, by the number of the bytes that follow
+abbrev pub group_length : ℕ → List ℕ
+group_length n = 0 ∷ 0 ∷ 0 ∷ 0 ∷ 4 ∷ 0 ∷ 0 ∷ 0 ∷ n ∷ 0 ∷ 0 ∷ 0 ∷ []
+
+-- What a response has behind its class, by the lower byte of its field and the two bytes of its
+-- status: the field (0000,0100), which is from 8000H; the message that it answers, 0203H
+-- (0000,0120); no data set (0000,0800); the status (0000,0900).
+abbrev pub response : ℕ → ℕ → ℕ → List ℕ
+response field low high =
+    0 ∷ 0 ∷ 0 ∷ 1 ∷ 2 ∷ 0 ∷ 0 ∷ 0 ∷ field ∷ 0x80 ∷ 0 ∷ 0 ∷ 0x20 ∷ 1 ∷ 2 ∷ 0 ∷ 0 ∷ 0 ∷ 3 ∷ 2 ∷ 0 ∷ 0
+    ∷ 0 ∷ 8 ∷ 2 ∷ 0 ∷ 0 ∷ 0 ∷ 1 ∷ 1 ∷ 0 ∷ 0 ∷ 0 ∷ 9 ∷ 2 ∷ 0 ∷ 0 ∷ 0 ∷ low ∷ high ∷ []
+
 -- ---- the response to a C-ECHO-RQ (PS3.7 9.3.5.2)
 
 -- Its 78 bytes, to the message 0203H and by the two bytes of its status: the group length, 66; the
--- class; the field 8030H; the message that it answers (0000,0120); no data set; the status
--- (0000,0900).
+-- class; and what each response has.
 abbrev pub echo_answer : ℕ → ℕ → List ℕ
 echo_answer low high =
-    0 ∷ 0 ∷ 0 ∷ 0 ∷ 4 ∷ 0 ∷ 0 ∷ 0 ∷ 66 ∷ 0 ∷ 0 ∷ 0 ∷ 0 ∷ 0 ∷ 2 ∷ 0 ∷ 18 ∷ 0 ∷ 0 ∷ 0
-    ∷ (verification
-    ++ 0 ∷ 0 ∷ 0 ∷ 0 ∷ 1 ∷ 2 ∷ 0 ∷ 0 ∷ 0 ∷ 0x30 ∷ 0x80 ∷ 0 ∷ 0 ∷ 0x20 ∷ 1 ∷ 2 ∷ 0 ∷ 0 ∷ 0 ∷ 3 ∷ 2
-    ∷ 0 ∷ 0 ∷ 0 ∷ 8 ∷ 2 ∷ 0 ∷ 0 ∷ 0 ∷ 1 ∷ 1 ∷ 0 ∷ 0 ∷ 0 ∷ 9 ∷ 2 ∷ 0 ∷ 0 ∷ 0 ∷ low ∷ high ∷ [])
+    group_length 66
+    ++ (0 ∷ 0 ∷ 2 ∷ 0 ∷ 18 ∷ 0 ∷ 0 ∷ 0 ∷ [])
+    ++ (verification ++ 0 ∷ [])
+    ++ response 0x30 low high
+
+-- its 60 bytes to one that names no class
+abbrev pub nameless_answer : List ℕ
+nameless_answer =
+    group_length 48 ++ (0 ∷ 0 ∷ 2 ∷ 0 ∷ 0 ∷ 0 ∷ 0 ∷ 0 ∷ []) ++ response 0x30 0 0
 
 -- the request, in a context of that class
 abbrev pub echo_in : ℕ → Text → Told
@@ -65,6 +82,9 @@ pub record EchoAnswers (c : Core) (at : Moment) : Type 0 where
   -- another class than the context's: 0122H
   pub misplaced :
       AcceptorWrites 16384 c at (echo_in 255 image) (transfer 84 80 255 3 (echo_answer 0x22 1))
+  -- no class: a success
+  pub nameless : AcceptorWrites 16384 c at (Whole 5 verification (EchoRq 0x0203 [] false))
+      (transfer 66 62 5 3 nameless_answer)
   -- no limit
   pub unlimited :
       AcceptorWrites 0 c at (echo_in 5 verification) (transfer 84 80 5 3 (echo_answer 0 0))
@@ -80,15 +100,15 @@ pub record EchoAnswers (c : Core) (at : Moment) : Type 0 where
 
 -- ---- the response to a C-STORE-RQ (PS3.7 9.3.1.2)
 
--- Its 102 bytes, as above: the group length, 90; the class; the field 8001H; the message that it
--- answers; no data set; the status; the instance.
+-- Its 102 bytes: the group length, 90; the class; what each response has; the instance.
 abbrev pub store_answer : ℕ → ℕ → List ℕ
 store_answer low high =
-    0 ∷ 0 ∷ 0 ∷ 0 ∷ 4 ∷ 0 ∷ 0 ∷ 0 ∷ 90 ∷ 0 ∷ 0 ∷ 0 ∷ 0 ∷ 0 ∷ 2 ∷ 0 ∷ 26 ∷ 0 ∷ 0 ∷ 0
-    ∷ (image
-    ++ 0 ∷ 0 ∷ 0 ∷ 0 ∷ 1 ∷ 2 ∷ 0 ∷ 0 ∷ 0 ∷ 1 ∷ 0x80 ∷ 0 ∷ 0 ∷ 0x20 ∷ 1 ∷ 2 ∷ 0 ∷ 0 ∷ 0 ∷ 3 ∷ 2 ∷ 0
-    ∷ 0 ∷ 0 ∷ 8 ∷ 2 ∷ 0 ∷ 0 ∷ 0 ∷ 1 ∷ 1 ∷ 0 ∷ 0 ∷ 0 ∷ 9 ∷ 2 ∷ 0 ∷ 0 ∷ 0 ∷ low ∷ high ∷ 0 ∷ 0 ∷ 0
-    ∷ 0x10 ∷ 8 ∷ 0 ∷ 0 ∷ 0 ∷ (uid ++ 0 ∷ []))
+    group_length 90
+    ++ (0 ∷ 0 ∷ 2 ∷ 0 ∷ 26 ∷ 0 ∷ 0 ∷ 0 ∷ [])
+    ++ (image ++ 0 ∷ [])
+    ++ response 1 low high
+    ++ (0 ∷ 0 ∷ 0 ∷ 0x10 ∷ 8 ∷ 0 ∷ 0 ∷ 0 ∷ [])
+    ++ (uid ++ 0 ∷ [])
 
 pub record StoreAnswers (c : Core) (at : Moment) : Type 0 where
   -- too large: A700H
@@ -107,6 +127,24 @@ pub record StoreAnswers (c : Core) (at : Moment) : Type 0 where
   pub another : AcceptorWrites 16384 c at
       (Store 7 image 0x0203 image uid (Read (an_image image other)))
       (transfer 108 104 7 3 (store_answer 0 0xA9))
+
+-- ---- what an acceptor doesn't know (PS3.7 annex C.5.12)
+
+-- an established acceptor writes nothing
+abbrev pub AcceptorIsQuiet : Core → Moment → Command → Type 0
+AcceptorIsQuiet c at command =
+    shows (turn at (placed (acceptor Sta6) c) (Whole 5 image command))
+    ≡ shown 6 [] (ends_as.Ended Closed) None
+
+pub record OtherAnswers (c : Core) (at : Moment) : Type 0 where
+  -- a C-FIND-RQ: 0211H
+  pub find : AcceptorWrites 16384 c at (Whole 5 image (Other 0x20 (Some 0x0203) None true))
+      (transfer 58 54 5 3 (group_length 40 ++ response 0x20 0x11 2))
+  -- a C-CANCEL-RQ has no answer, and what is a response has none
+  pub cancel : AcceptorIsQuiet c at (Other 0x0FFF None None false)
+  pub find_response : AcceptorIsQuiet c at (Other 0x8020 (Some 0x0203) (Some 0) false)
+  pub store_response : AcceptorIsQuiet c at (StoreRsp 0x0203 0 image uid false)
+  pub echo_response : AcceptorIsQuiet c at (EchoRsp 0x0203 0 verification false)
 
 -- ---- message ids (PS3.7 9.1.1.1.1: a number of two bytes)
 

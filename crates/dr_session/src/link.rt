@@ -46,6 +46,9 @@ pub trait Link {
 /// The last moment that a clock tells, in milliseconds.
 pub const LAST_MOMENT: u64 = 1 << 62;
 
+// A clock that was held back by a smaller one would meet its contract.
+const _: () = prove!(LAST_MOMENT == 4_611_686_018_427_387_904);
+
 /// Tells the moment, in milliseconds. Its relation says which moments it may tell.
 pub trait Clock {
     ghost tells: { Self → ℕ → Type 0 };

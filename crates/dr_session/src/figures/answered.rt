@@ -1,13 +1,15 @@
 //! What follows an answer of the desk, the echo that goes out, and the inputs that faults make.
-ghost use Rattle.std.specs.Prelude.{ℕ};
+ghost use Rattle.std.specs.Prelude.{ℕ, List};
 ghost use Rattle.dr_base.specs.Texts.{Text};
+ghost use Rattle.dr_dimse.specs.declared.command.Command.{Command};
 ghost use Rattle.dr_nego.specs.declared.agreed.Agreed.{Agreed};
 ghost use Rattle.dr_pdu.specs.declared.pdu.AssociateRj.{AssociateRj};
 ghost use Rattle.dr_session.specs.declared.ends.Core.{Core};
 ghost use Rattle.dr_session.specs.declared.ends.Moment.{Moment};
+ghost use Rattle.dr_session.specs.declared.ends.Pending.{Pending};
 ghost use Rattle.dr_session.specs.Answered.{Agreements, Settlings, Findings, Handings};
 ghost use Rattle.dr_session.specs.Answered.{WithoutContexts, RejectedRows, EchoRequests};
-ghost use Rattle.dr_session.specs.Answered.{FaultInputs};
+ghost use Rattle.dr_session.specs.Answered.{Crowdings, FaultInputs, Leavings};
 
 /// A requestor hears its acceptance, its rejection or a response.
 pub fn hears()
@@ -23,6 +25,16 @@ pub fn sends()
     ensures handings { (c : Core) (at : Moment) → Handings c at }
     ensures contexts { (c : Core) (at : Moment) → WithoutContexts c at }
     ensures echoes { (c : Core) (now : ℕ) → EchoRequests c now }
+{}
+
+/// An end leaves while a response is awaited.
+pub fn leaves()
+    ensures { (c : Core) (at : Moment) (p : Pending) → Leavings c at p }
+{}
+
+/// There is no room for more of a data set.
+pub fn crowded()
+    ensures { (c : Core) (command : Command) (text : List ℕ) → Crowdings c command text }
 {}
 
 /// What is no PDU is heard as one of an unknown type, or as an invalid one.

@@ -2,13 +2,14 @@
 ghost use Rattle.dr_session.specs.declared.ends.Core.{Core};
 ghost use Rattle.dr_session.specs.declared.ends.Moment.{Moment};
 ghost use Rattle.dr_session.specs.Spellings.{DataSets, EchoAnswers, MessageIds, ReservedBytes};
-ghost use Rattle.dr_session.specs.Spellings.{StoreAnswers};
+ghost use Rattle.dr_session.specs.Spellings.{OtherAnswers, StoreAnswers};
 
 /// The responses to a C-ECHO-RQ and to a C-STORE-RQ: the message that they answer, their context
-/// and their status, and how a short limit cuts them.
+/// and their status, and how a short limit cuts them. Those to what isn't known.
 pub fn responses()
     ensures echoes { (c : Core) (at : Moment) → EchoAnswers c at }
     ensures stores { (c : Core) (at : Moment) → StoreAnswers c at }
+    ensures others { (c : Core) (at : Moment) → OtherAnswers c at }
 {}
 
 /// How a data set is cut.
