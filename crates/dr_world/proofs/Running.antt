@@ -1,7 +1,7 @@
 -- What holds after lists of steps.
-use Rattle.std.proofs.Common.{◌≡◌, ℕ, ◌+◌, ◌<◌, ◌≤◌, List, [], ◌∷◌, ◌++◌, length, get_or, take, append_assoc, map as mapped, Option, Result, Ok, Err, refl, sym, ap, subst, ◌∙◌}
+use Rattle.std.proofs.Common.{◌≡◌, ℕ, ◌+◌, ◌<◌, ◌≤◌, List, [], ◌∷◌, ◌++◌, length, get_or, take, drop, append_assoc, map as mapped, Option, Result, Ok, Err, refl, sym, ap, subst, ◌∙◌}
 use Rattle.std.proofs.Math.Logic.{∥∥₁_map, ∥∥₁_elim, ∥∥₁_prop}
-use Rattle.std.proofs.lemmas.List.{append-nil, take_more, take_all, map-append}
+use Rattle.std.proofs.lemmas.List.{append-nil, take_more, take_all, take-append-drop, map-append}
 use Rattle.std.specs.Option.{option_map}
 use Rattle.dr_base.specs.Texts.{Text}
 use Rattle.dr_ledger.specs.declared.ledger.Ledger.{Ghosts}
@@ -19,10 +19,10 @@ use Rattle.dr_world.specs.declared.steps.StepNote.{StepNote}
 use Rattle.dr_world.specs.declared.world.World.{World}
 use Rattle.dr_world.specs.Shows.{desk_at}
 use Rattle.dr_world.specs.Nodes.{seat_of}
-use Rattle.dr_world.specs.Whole.{StepsTo, noted}
+use Rattle.dr_world.specs.Whole.{EndsStep, StepsTo, noted}
 use Rattle.dr_ledger.specs.declared.content.Job.{Job}
 use Rattle.dr_world_script.specs.declared.step.Step.{Step}
-use Rattle.dr_world.specs.Runs.{IsReached, StepsOn, HoldsAfter, HoldsAfterAll, HoldsWhereReached, Leads, step_of}
+use Rattle.dr_world.specs.Runs.{EndsPlay, IsReached, StepsOn, HoldsAfter, HoldsAfterAll, HoldsWhereReached, Leads, step_of}
 
 -- one step behind others
 one_more : (plan : Network) (certificate : Certificate) (steps : List bytes.WorldStep) (step : bytes.WorldStep) (note : bytes.StepNote) (a b c : ByteWorld) → RunsOf plan certificate a steps b → Steps plan certificate b step note c → RunsOf plan certificate a (steps ++ step ∷ []) c
@@ -78,6 +78,16 @@ module _ {L : Type 0} {l : Ghosts L} where
       append_assoc before (mapped step_of (take i steps)) (step_of step ∷ [])
       ∙ ap (λ (s : List bytes.WorldStep). before ++ s) (sym (map-append step_of (take i steps) (step ∷ [])) ∙ ap (mapped step_of) (ap (λ (x : Step). take i steps ++ x ∷ []) is ∙ sym (take_more steps i step less))) in
       subst P same (goes plan certificate certified (before ++ mapped step_of (take i steps)) (h plan certificate certified before reached))
+
+  -- the steps before the one with which the world didn't go on
+  pub ends_play : (first old new : World L l) (steps : List Step) (i : ℕ) (step : Step) (why : WorldFault) → i < length steps → step ≡ get_or steps i step → Leads (mapped step_of (take i steps)) first old → EndsStep (step_of step) old new why
+      → EndsPlay (mapped step_of steps) first new why
+  ends_play first old new steps i step why less is h ends =
+      let later : List Step = drop (i + 1) steps in
+      let listed : take i steps ++ step ∷ [] ≡ take (i + 1) steps = ap (λ (x : Step). take i steps ++ x ∷ []) is ∙ sym (take_more steps i step less) in
+      let parts : steps ≡ take i steps ++ step ∷ later =
+      sym (take-append-drop (i + 1) steps) ∙ (ap (λ (s : List Step). s ++ later) (sym listed) ∙ append_assoc (take i steps) (step ∷ []) later) in
+      (mapped step_of (take i steps), mapped step_of later, step_of step, old, ap (mapped step_of) parts ∙ map-append step_of (take i steps) (step ∷ later), h, ends)
 
   pub leads_all : (first new : World L l) (steps : List Step) (i : ℕ) → length steps ≤ i → Leads (mapped step_of (take i steps)) first new → Leads (mapped step_of steps) first new
   leads_all first new steps i all h = (let P : List Step → Type 0 = λ s. Leads (mapped step_of s) first new in subst P (take_all i steps all) h)

@@ -17,10 +17,11 @@ use Rattle.dr_world_script.specs.declared.step.Step.TheVariants.{Submit, Open, A
 use Rattle.dr_world_script.specs.declared.step.Step.TheVariants.{Abort, Release, Close, Late}
 use Rattle.dr_world_script.specs.declared.step.Step.TheVariants.{Restart, Requeue, Drop, Forget}
 use Rattle.dr_world_script.specs.declared.step.Step.TheVariants.{Tick, RefuseStore}
+use Rattle.dr_world.specs.declared.fault.WorldFault.{WorldFault}
 use Rattle.dr_world.specs.declared.world.World.{World}
 use Rattle.dr_world.specs.Shows.{ShowsBytes, IsSeated}
 use Rattle.dr_world.specs.Ends.{named}
-use Rattle.dr_world.specs.Whole.{AllStand, contents}
+use Rattle.dr_world.specs.Whole.{AllStand, EndsStep, contents}
 
 -- a step, as the world of bytes has it
 abbrev pub step_of : Step → bytes.WorldStep
@@ -110,6 +111,16 @@ Leads steps old new =
     → (before : List bytes.WorldStep)
     → IsReached plan certificate before old
     → IsReached plan certificate (before ++ steps) new
+
+-- Why a world doesn't go on with these steps: those before one of them led on, and it doesn't go on
+-- with that one.
+abbrev pub EndsPlay : {L : Type 0} {l : Ghosts L}
+    → List bytes.WorldStep → World L l → World L l → WorldFault → Type 0
+EndsPlay {L} {l} steps old new why =
+    (done later : List bytes.WorldStep) × (step : bytes.WorldStep) × (mid : World L l)
+    × (steps ≡ done ++ step ∷ later)
+    × Leads done old mid
+    × EndsStep step mid new why
 
 -- The four claims hold after them, under the ledgers' own premise.
 abbrev pub HoldsAfterAll : {L : Type 0} {l : Ghosts L} → World L l → World L l → Type 0

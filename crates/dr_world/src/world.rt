@@ -17,7 +17,8 @@ ghost use Rattle.dr_world.specs.Nodes.{event_at, over_at, push_at as pushed_at};
 ghost use Rattle.dr_world.specs.declared.deed.Deed.TheVariants as deeds;
 ghost use Rattle.dr_world.specs.declared.fault.WorldFault.{WorldFault as FaultValue};
 ghost use Rattle.dr_world.specs.Played.{HoldsThrough, PlaysOn};
-ghost use Rattle.dr_world.specs.Runs.{StepsOn, HoldsAfter, HoldsAfterAll, Leads, step_of};
+ghost use Rattle.dr_world.specs.Runs.{StepsOn, EndsPlay, HoldsAfter, HoldsAfterAll, Leads};
+ghost use Rattle.dr_world.specs.Runs.{step_of};
 ghost use Rattle.dr_world.specs.Reports.{IsNeededIn, IsReported, IsUnread, ListsBook, books_of};
 ghost use Rattle.dr_world.specs.Restarted.{AllFarHear, FarHears};
 ghost use Rattle.dr_world.specs.Whole.{AllStand, Calls, EndsStep, GivesUp, HasTicked, IsSameWorld};
@@ -472,6 +473,8 @@ impl<L: LetsGo> World<Refusing<L>> {
         ensures leads { OnOk result (Leads (mapped step_of steps.now) self.old self.new) }
         ensures headline { OnOk result (HoldsAfterAll self.old self.new) }
         ensures after { (fault : FaultValue) → result ≡ Err fault → self.new.lost ≡ Some fault }
+        ensures early { self.old.lost ≡ None
+            → IfErr result (EndsPlay (mapped step_of steps.now) self.old self.new) }
     {
         for step in steps {
             self.step(step)?;
