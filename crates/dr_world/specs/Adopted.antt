@@ -151,18 +151,32 @@ AllStay plan next = (name : Text) → HasNode plan name → HasNode next name
 abbrev pub IsHalted : WorldFault → Type 0
 IsHalted why = (why ≡ cause.Memory) ⊎ (why ≡ cause.HalfAdopted)
 
--- Why a change isn't made: a node doesn't go over; or there is another number of ledgers than of
--- nodes that join, or one of them can't be its node's.
+-- Why nodes can't join those that are there: there is another number of ledgers than of such nodes,
+-- or one of them can't be its node's.
+abbrev pub EndsJoining : {K L : Type 0} {l : Ghosts L}
+    → (Part → K → WorldFault → Type 0)
+    → Network → Certificate → List K → BTreeMap Text (Node L l) → WorldFault → Type 0
+EndsJoining unfit next own joining nodes why =
+    (names : List Text) × JoinInOrder next nodes names
+    × (((why ≡ cause.WrongLedgers) × (length names ≢ length joining))
+    ⊎ SomeIsUnfit unfit next own names joining why)
+
+-- Why the nodes don't take a plan: one doesn't go over, or those that join can't.
+abbrev pub EndsTaking : {K L : Type 0} {l : Ghosts L}
+    → (Part → K → WorldFault → Type 0)
+    → Network → Certificate → List K → BTreeMap Text (Node L l) → WorldFault → Type 0
+EndsTaking unfit next own joining nodes why =
+    IsHalted why ⊎ EndsJoining unfit next own joining nodes why
+
+-- Why a change isn't made, by the nodes as a look at their rows left them.
 abbrev pub EndsChange : {K L : Type 0} {l : Ghosts L}
     → (Part → K → WorldFault → Type 0)
-    → Network → Certificate → List K → World L l → WorldFault → Type 0
-EndsChange unfit next own joining new why =
+    → Network → Certificate → List K → BTreeMap Text (Node L l) → WorldFault → Type 0
+EndsChange {K} {L} {l} unfit next own joining nodes why =
     IsHalted why
-    ⊎ ((names : List Text)
-    × (((why ≡ cause.WrongLedgers)
-    × JoinInOrder next new.nodes names
-    × (length names ≢ length joining))
-    ⊎ SomeIsUnfit unfit next own names joining why))
+    ⊎ ((looked : BTreeMap Text (Node L l))
+    × AreSameNodes nodes looked
+    × EndsJoining unfit next own joining looked why)
 
 -- ---- rows
 

@@ -2,7 +2,7 @@
 ghost use Rattle.std.specs.Prelude.{◌≡◌, ◌∷◌, [], Err, IfErr, IfOk, None, OnOk, Some, length};
 ghost use Rattle.std.specs.Vec.{vec_len};
 ghost use Rattle.dr_world.specs.Adopted.{AddsAbsent, AllJoin, AreJoining, ChangesTo, EndsChange};
-ghost use Rattle.dr_world.specs.Adopted.{JoinInOrder, Took};
+ghost use Rattle.dr_world.specs.Adopted.{EndsTaking, JoinInOrder, Took};
 ghost use Rattle.dr_world.specs.Founding.{IsUnfit, SomeIsUnfit};
 ghost use Rattle.dr_world.specs.Played.{HoldsThrough, PlaysOn};
 ghost use Rattle.dr_world.specs.declared.deed.Deed.TheVariants as deeds;
@@ -116,7 +116,7 @@ impl<L: Ledger + Drop> World<Refusing<L>> {
         ensures why { self.old.lost ≡ None
             → IfErr result
             (EndsChange (IsUnfit L.trusts L.stands L.book L.site L.failed) next.now.plan
-            next.now.certificate joining.items self.new) }
+            next.now.certificate joining.items self.old.nodes) }
         ensures whole { IfOk result (λ change. self.new.lost ≡ None) }
     {
         let _plan = next.plan();
@@ -143,7 +143,7 @@ impl<L: Ledger + Drop> World<Refusing<L>> {
             ChangesTo next.now.plan next.now.certificate self.old change self.new) }
         ensures why { IfErr result
             (EndsChange (IsUnfit L.trusts L.stands L.book L.site L.failed) next.now.plan
-            next.now.certificate joining.items self.new) }
+            next.now.certificate joining.items self.old.nodes) }
     {
         let names = names_in(self.alloc, &self.nodes)?;
         if some_is_on(&self.nodes, &self.wires) {
@@ -183,8 +183,8 @@ impl<L: Ledger + Drop> World<Refusing<L>> {
         ensures took { OnOk result
             (Took next.now.plan next.now.certificate names.now joins.now self.old self.new) }
         ensures why { IfErr result
-            (EndsChange (IsUnfit L.trusts L.stands L.book L.site L.failed) next.now.plan
-            next.now.certificate joining.items self.new) }
+            (EndsTaking (IsUnfit L.trusts L.stands L.book L.site L.failed) next.now.plan
+            next.now.certificate joining.items self.old.nodes) }
     {
         if joins.len() != joining.len() {
             drop(joining);

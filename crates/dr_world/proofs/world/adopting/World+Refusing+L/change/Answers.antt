@@ -1,10 +1,12 @@
-use Rattle.std.proofs.Common.{List, sym, subst, ◌∙◌, refl}
+use Rattle.std.proofs.Common.{List, inl, inr, sym, subst, ◌∙◌, refl}
 use Rattle.std.proofs.lemmas.Bool.{false≢true}
 use Rattle.dr_base.specs.Texts.{Text}
 use Rattle.dr_plan_model.specs.Networks.{Network}
-use Rattle.dr_world.specs.Adopted.{AreJoining, AreNodes, Finds, JoinInOrder, Took}
+use Rattle.dr_world.specs.Adopted.{AreJoining, AreNodes, EndsChange, Finds, JoinInOrder, Took}
+use Rattle.dr_world.specs.Founding.{IsUnfit}
 use Rattle.dr_world.specs.declared.changing.Change.{Change}
 use Rattle.dr_world.proofs.Adopting.{all_took, found_a_row, skipped_on, skipped_stranger}
+use Rattle.dr_world.proofs.Founded.{passed_on}
 use Rattle.dr_world.proofs.world.adopting.World+Refusing+L.change.Goals as goal
 
 pub returns-then-some_is_on-clause-changes : goal.returns-then-some_is_on-clause-changes
@@ -82,3 +84,28 @@ take-requires g c =
     (λ (p : Network × List Text). JoinInOrder p.0 c.look_at_all.new.nodes p.1)
     (λ j. (c.plan-2.ensures.same j, sym c.as_slice-4.ensures.value j))
     c.in_ok-joins.ensures.order
+
+pub returns-in_err-look_at_all-clause-why : goal.returns-in_err-look_at_all-clause-why
+returns-in_err-look_at_all-clause-why g c =
+    let unfit = IsUnfit g.L.Ledger.trusts g.L.Ledger.stands g.L.Ledger.book g.L.Ledger.site
+    g.L.Ledger.failed in
+    passed_on c.from_residual-in_err-look_at_all.result c.in_err-look_at_all.field-0.0
+    (EndsChange unfit c.args.next.now.plan c.args.next.now.certificate c.args.joining.items
+    c.args.self.now.nodes) c.from_residual-in_err-look_at_all.ensures.1
+    (inl c.in_err-look_at_all.ensures.why)
+
+pub returns-in_err-take-clause-why : goal.returns-in_err-take-clause-why
+returns-in_err-take-clause-why g c =
+    let plan = c.args.next.now.plan in
+    let unfit = IsUnfit g.L.Ledger.trusts g.L.Ledger.stands g.L.Ledger.book g.L.Ledger.site
+    g.L.Ledger.failed in
+    let found = subst (λ (p : List Text × Change).
+    Finds plan p.0 c.args.self.now.nodes p.1 c.look_at_all.new.nodes)
+    (λ j. (c.as_slice-2.ensures.value j, c.in-Adopted.is j)) c.in_ok-look_at_all.ensures.finds in
+    passed_on c.from_residual-in_err-take.result c.in_err-take.field-0.0
+    (EndsChange unfit plan c.args.next.now.certificate c.args.joining.items
+    c.args.self.now.nodes) c.from_residual-in_err-take.ensures.1
+    (elim c.in_err-take.ensures.why [
+      | inl halted ↦ inl halted
+      | inr joins ↦ inr (c.look_at_all.new.nodes, found.0, joins)
+    ])
