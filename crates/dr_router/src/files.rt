@@ -28,6 +28,7 @@ use dr_store::SqlLedger;
 use dr_store_audit::{is_ours, lacking};
 use dr_store_data::{DataFileFault, DataMark, HEAD_SIZE};
 use dr_store_open::{Keeping, OpenedLedger, OpeningFault, on};
+use dr_store_past::NoPast;
 use dr_word_adopt::ShowsFiles;
 use dr_word_check::Disk;
 use dr_word_rehearse::{Finds, LedgerFound};
@@ -323,14 +324,14 @@ fn keeping_of(making: Making) -> Keeping
 }
 
 /// The ledger of this site, over a connection to its tables and the shelf of their cells, as they
-/// were opened. It is told the moment (milliseconds since 1970).
+/// were opened. All its lines are in the tables. It is told the moment (milliseconds since 1970).
 fn stored_ledger<S: Alter>(
     alloc: Global,
     conn: Connection<S>,
     opened: OpenedLedger<File>,
     site: Site,
     now: Option<u64>,
-) -> SqlLedger<S, FileShelf>
+) -> SqlLedger<S, FileShelf, NoPast>
     requires idle { conn.in_transaction ≡ false }
     requires kept { HasCleanDisk (state S.Store conn)
         → IsKept [] opened.next site (state S.Store conn) }
@@ -341,7 +342,15 @@ fn stored_ledger<S: Alter>(
     ensures shelf { result.shelf.0 ≡ opened.shelf }
 {
     let OpenedLedger { shelf, next } = opened;
-    SqlLedger::of(alloc, conn, FileShelf(shelf), site, next, now)
+    SqlLedger::of(
+        alloc,
+        conn,
+        FileShelf(shelf),
+        NoPast::new(alloc),
+        site,
+        next,
+        now,
+    )
 }
 
 /// The ledger of a site over a connection to its database, beside which is the file of its data
@@ -353,7 +362,7 @@ fn ledger_over<S: Alter + Drop, D: Databases>(
     keeping: Keeping,
     site: Site,
     now: Option<u64>,
-) -> Result<SqlLedger<S, FileShelf>, OpenFault>
+) -> Result<SqlLedger<S, FileShelf, NoPast>, OpenFault>
     requires { conn.in_transaction ≡ false }
     ensures of { IfOk result (λ l. l.site ≡ site) }
     ensures is { IfOk result (λ l. HasLedgerIn l.site (state S.Store l.conn) l.shelf.0) }
@@ -422,7 +431,7 @@ impl<D: Databases + Drop> Ledgers for StoredLedgers<D> {
     ghost use Rattle.sqlite.specs.Held.{state};
     ghost use Rattle.dr_router.specs.Opening.{HasLedgerIn};
 
-    type Ledger = SqlLedger<D::Store, FileShelf>;
+    type Ledger = SqlLedger<D::Store, FileShelf, NoPast>;
 
     ghost opens = { λ files path ledger.
         HasLedgerIn ledger.site (state D.Store.Store ledger.conn) ledger.shelf.0 };
@@ -433,7 +442,7 @@ impl<D: Databases + Drop> Ledgers for StoredLedgers<D> {
         path: &str,
         site: Site,
         making: Making,
-    ) -> Result<SqlLedger<D::Store, FileShelf>, OpenFault> {
+    ) -> Result<SqlLedger<D::Store, FileShelf, NoPast>, OpenFault> {
         if let Some(fault) = making.refusal(self.0.is_there(path)) {
             return Err(fault);
         }
@@ -470,7 +479,7 @@ fn found_over<S: Alter + Drop, D: Databases>(
     data: &DataBeside<'_, D>,
     site: Site,
     now: Option<u64>,
-) -> Result<LedgerFound<SqlLedger<S, FileShelf>>, OpenFault>
+) -> Result<LedgerFound<SqlLedger<S, FileShelf, NoPast>>, OpenFault>
     requires { conn.in_transaction ≡ false }
     ensures { IfOk result (IsFoundBy (λ l. HasLedgerIn l.site (state S.Store l.conn) l.shelf.0)
         (λ l. l.site) site) }
@@ -493,7 +502,7 @@ impl<D: Databases + Drop> Finds for StoredLedgers<D> {
         alloc: Global,
         path: &str,
         site: Site,
-    ) -> Result<LedgerFound<SqlLedger<D::Store, FileShelf>>, OpenFault> {
+    ) -> Result<LedgerFound<SqlLedger<D::Store, FileShelf, NoPast>>, OpenFault> {
         if !self.0.is_there(path) {
             return Err(OpenFault::NoLedger);
         }

@@ -10,6 +10,7 @@ use crate::shelf::FileShelf;
 use dr_ledger::LedgerFault;
 use dr_run_open::OpenFault;
 use dr_store::SqlLedger;
+use dr_store_past::NoPast;
 use sqlite::Alter;
 
 /// What of a ledger's data sets is read as it is opened.
@@ -57,7 +58,9 @@ fn read_fault(fault: LedgerFault) -> OpenFault
 /// Reads each data set that a ledger needs, from its file of them, until one can't be read.
 ///
 /// Errors: NoData where one can't be read, or isn't that of its instance; Store; Memory.
-pub fn read_all<S: Alter>(ledger: &mut SqlLedger<S, FileShelf>) -> Result<(), OpenFault>
+pub fn read_all<S: Alter>(
+    ledger: &mut SqlLedger<S, FileShelf, NoPast>,
+) -> Result<(), OpenFault>
     ensures reads { IsCleanOn ledger.new.shelf.0
         → IsSafe (state S.Store ledger.new.conn)
         → IsReadAs (state S.Store ledger.old.conn).committed.trees (read_on ledger.old.shelf.0)

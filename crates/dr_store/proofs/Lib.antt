@@ -5,7 +5,10 @@ pub mod Among
 pub mod Crashes
 pub mod Looks
 pub mod Nexts
+pub mod Numbered
+pub mod Numbers
 pub mod Owns
+pub mod Pasts
 pub mod Readable
 pub mod Replies
 pub mod Sets
@@ -15,6 +18,7 @@ pub mod Stable
 pub mod Told
 pub mod Unfit
 pub mod Unreadables
+pub mod Wholes
 pub mod Within
 pub mod Writes
 pub mod Zips

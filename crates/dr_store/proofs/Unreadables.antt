@@ -13,7 +13,7 @@ use Rattle.dr_ledger.specs.declared.fault.LedgerFault.{LedgerFault}
 use Rattle.dr_ledger.specs.declared.fault.LedgerFault.TheVariants as fault
 use Rattle.dr_ledger.specs.declared.item.Progress.{Progress}
 use Rattle.dr_ledger.specs.Bodies.{Bodies, HasAll, IsNeeded, IsThere}
-use Rattle.dr_ledger.specs.Books.{Book, is_queued}
+use Rattle.dr_ledger.specs.Books.{Book, Line, is_queued}
 use Rattle.dr_ledger.specs.Pairs.{Pair, pair_cmp}
 use Rattle.dr_ledger.specs.Replies.{AreKept, Counts, LastsAfter, PremiseLasts}
 use Rattle.dr_ledger.proofs.Maps.{text_pairs}
@@ -21,6 +21,7 @@ use Rattle.dr_ledger_views.proofs.Searching.{at_place}
 use Rattle.dr_store_schema.specs.Books.{book_of}
 use Rattle.dr_store_calls.specs.Calling.{IsSafe}
 use Rattle.dr_store.specs.Owning.{bodies_with}
+use Rattle.dr_store.specs.Pasts.{whole_book}
 use Rattle.dr_store.specs.Reading.{FindsUnreadable, KeptAreThere, LeavesAsRead, QueuedAreThere, TellsWhereNeeded, TellsWhereQueued}
 use Rattle.dr_store.proofs.Among.{place_of}
 
@@ -50,17 +51,17 @@ counted_so r a b same none = record {
 }
 
 -- nothing was called
-pub leaves_nothing : {A : Type 0} (x : A) (read_of : List ℕ → Option (List ℕ)) (Is : Type 0) (s : State) (n : ℕ) → LeavesAsRead {A = A} (Ok x) read_of read_of Is Is s s n n
-leaves_nothing x read_of Is s n = record {
+pub leaves_nothing : {A : Type 0} (all : List Line) (x : A) (read_of : List ℕ → Option (List ℕ)) (Is : Type 0) (s : State) (n : ℕ) → LeavesAsRead {A = A} all (Ok x) read_of read_of Is Is s s n n
+leaves_nothing all x read_of Is s n = record {
   same = λ is safe. (refl, refl);
   stood = λ is safe. (safe, is);
   lasts = record { trusted = λ trusts. trusts; lasts = λ trusts stands. stands };
   counts = counted_so (Ok x) n n refl (λ stored. let f : ⊥ = cc in f);
 }
 
-module _ {A : Type 0} (x : A) (was_of read_of : List ℕ → Option (List ℕ)) (Was Is : Type 0) (old new : State) (before now : ℕ) (l : LeavesAsRead {A = A} (Ok x) was_of read_of Was Is old new before now) where
+module _ {A : Type 0} {all : List Line} (x : A) (was_of read_of : List ℕ → Option (List ℕ)) (Was Is : Type 0) (old new : State) (before now : ℕ) (l : LeavesAsRead {A = A} all (Ok x) was_of read_of Was Is old new before now) where
   -- another answer is given
-  pub leaves_ok : {B : Type 0} (y : B) → LeavesAsRead {A = B} (Ok y) was_of read_of Was Is old new before now
+  pub leaves_ok : {B : Type 0} (y : B) → LeavesAsRead {A = B} all (Ok y) was_of read_of Was Is old new before now
   leaves_ok y = record {
     same = l.same;
     stood = l.stood;
@@ -69,7 +70,7 @@ module _ {A : Type 0} (x : A) (was_of read_of : List ℕ → Option (List ℕ)) 
   }
 
   -- there is no memory for an answer
-  pub leaves_memory : {B : Type 0} → LeavesAsRead {A = B} (Err fault.Memory) was_of read_of Was Is old new before now
+  pub leaves_memory : {B : Type 0} → LeavesAsRead {A = B} all (Err fault.Memory) was_of read_of Was Is old new before now
   leaves_memory = record {
     same = l.same;
     stood = l.stood;
@@ -78,9 +79,9 @@ module _ {A : Type 0} (x : A) (was_of read_of : List ℕ → Option (List ℕ)) 
   }
 
 -- one call is made behind another that had an answer
-module _ {A B : Type 0} (x : A) (r : Result B LedgerFault) (was_of mid_of read_of : List ℕ → Option (List ℕ)) (Was Mid Is : Type 0) (old mid new : State) (before between now : ℕ)
-    (one : LeavesAsRead {A = A} (Ok x) was_of mid_of Was Mid old mid before between) (two : LeavesAsRead {A = B} r mid_of read_of Mid Is mid new between now) where
-  pub leaves_then : LeavesAsRead {A = B} r was_of read_of Was Is old new before now
+module _ {A B : Type 0} {all : List Line} (x : A) (r : Result B LedgerFault) (was_of mid_of read_of : List ℕ → Option (List ℕ)) (Was Mid Is : Type 0) (old mid new : State) (before between now : ℕ)
+    (one : LeavesAsRead {A = A} all (Ok x) was_of mid_of Was Mid old mid before between) (two : LeavesAsRead {A = B} all r mid_of read_of Mid Is mid new between now) where
+  pub leaves_then : LeavesAsRead {A = B} all r was_of read_of Was Is old new before now
   leaves_then = record {
     same = λ is safe.
         let stood = two.stood is safe in
@@ -101,14 +102,14 @@ module _ {A B : Type 0} (x : A) (r : Result B LedgerFault) (was_of mid_of read_o
 -- ---- what is told
 
 -- what is told after some calls is told of what was there before
-pub told_before : (was_of mid_of : List ℕ → Option (List ℕ)) (base mid : Trees) → (book_of mid ≡ book_of base) × (bodies_with mid_of mid ≡ bodies_with was_of base) → (uid : Text) (told : Bool) → TellsWhereNeeded mid_of mid uid told → TellsWhereNeeded was_of base uid told
-told_before was_of mid_of base mid same uid told h =
+pub told_before : (all : List Line) (was_of mid_of : List ℕ → Option (List ℕ)) (base mid : Trees) → (whole_book all mid ≡ whole_book all base) × (bodies_with mid_of mid ≡ bodies_with was_of base) → (uid : Text) (told : Bool) → TellsWhereNeeded mid_of mid uid told → TellsWhereNeeded was_of base uid told
+told_before all was_of mid_of base mid same uid told h =
     subst (λ (b : Book). IsNeeded b uid → IsTrue told ↔ IsThere (bodies_with was_of base) uid) same.0
-    (subst (λ (o : Bodies). IsNeeded (book_of mid) uid → IsTrue told ↔ IsThere o uid) same.1 h)
+    (subst (λ (o : Bodies). IsNeeded (whole_book all mid) uid → IsTrue told ↔ IsThere o uid) same.1 h)
 
-pub queued_before : (was_of mid_of : List ℕ → Option (List ℕ)) (base mid : Trees) → (book_of mid ≡ book_of base) × (bodies_with mid_of mid ≡ bodies_with was_of base) → (row : Pair × Progress) (told : Bool) → TellsWhereQueued mid_of mid row told → TellsWhereQueued was_of base row told
-queued_before was_of mid_of base mid same row told (inl over) = inl over
-queued_before was_of mid_of base mid same row told (inr h) = inr (h.0, told_before was_of mid_of base mid same row.0.0 told h.1)
+pub queued_before : (all : List Line) (was_of mid_of : List ℕ → Option (List ℕ)) (base mid : Trees) → (whole_book all mid ≡ whole_book all base) × (bodies_with mid_of mid ≡ bodies_with was_of base) → (row : Pair × Progress) (told : Bool) → TellsWhereQueued mid_of mid row told → TellsWhereQueued was_of base row told
+queued_before all was_of mid_of base mid same row told (inl over) = inl over
+queued_before all was_of mid_of base mid same row told (inr h) = inr (h.0, told_before all was_of mid_of base mid same row.0.0 told h.1)
 
 module _ (read_of : List ℕ → Option (List ℕ)) (db : Trees) where
   -- where it is needed, the data set of the uid is there
@@ -176,11 +177,16 @@ module _ (read_of : List ℕ → Option (List ℕ)) (db : Trees) where
 
 -- ---- what is found
 
-pub finds_before : (HaveTheirs : Book → Bodies → Type 0) (was_of mid_of : List ℕ → Option (List ℕ)) (base mid : Trees) → (book_of mid ≡ book_of base) × (bodies_with mid_of mid ≡ bodies_with was_of base) → (found : Option Text) → FindsUnreadable HaveTheirs mid_of mid found → FindsUnreadable HaveTheirs was_of base found
-finds_before HaveTheirs was_of mid_of base mid same None h =
-    subst (λ (b : Book). HaveTheirs b (bodies_with was_of base)) same.0 (subst (λ (o : Bodies). HaveTheirs (book_of mid) o) same.1 h)
-finds_before HaveTheirs was_of mid_of base mid same (Some uid) h =
-    (subst (λ (b : Book). IsNeeded b uid) same.0 h.0, λ there. h.1 (subst (λ (o : Bodies). IsThere o uid) (sym same.1) there))
+-- what is said of the book's data sets says nothing of its lines
+module _ (all : List Line) (HaveTheirs : Book → Bodies → Type 0) (wholly : (db : Trees) (bodies : Bodies) → HaveTheirs (book_of db) bodies → HaveTheirs (whole_book all db) bodies) (back : (db : Trees) (bodies : Bodies) → HaveTheirs (whole_book all db) bodies → HaveTheirs (book_of db) bodies)
+    (was_of mid_of : List ℕ → Option (List ℕ)) (base mid : Trees) (same : (whole_book all mid ≡ whole_book all base) × (bodies_with mid_of mid ≡ bodies_with was_of base)) where
+  pub finds_before : (found : Option Text) → FindsUnreadable HaveTheirs mid_of mid found → FindsUnreadable HaveTheirs was_of base found
+  finds_before None h =
+      back base (bodies_with was_of base)
+      (subst (λ (b : Book). HaveTheirs b (bodies_with was_of base)) same.0
+      (subst (λ (o : Bodies). HaveTheirs (whole_book all mid) o) same.1 (wholly mid (bodies_with mid_of mid) h)))
+  finds_before (Some uid) h =
+      (subst (λ (b : Book). IsNeeded b uid) same.0 h.0, λ there. h.1 (subst (λ (o : Bodies). IsThere o uid) (sym same.1) there))
 
 pub finds_all : (read_of : List ℕ → Option (List ℕ)) (db : Trees) → KeptAreThere (book_of db) (bodies_with read_of db) → (found : Option Text) → FindsUnreadable QueuedAreThere read_of db found → FindsUnreadable HasAll read_of db found
 finds_all read_of db kept None queued = has_all read_of db kept queued

@@ -1,15 +1,14 @@
 -- Lines of a journal by their own numbers, told by notes and goals of a span.
-use Rattle.std.proofs.Common.{◌≡◌, ◌==◌, ℕ, ◌+◌, ◌<◌, ◌≤◌, Bool, true, cond, List, [], ◌∷◌, map as mapped, filter, refl, sym, ap, ◌∙◌, arith}
+use Rattle.std.proofs.Common.{◌≡◌, ◌==◌, ℕ, ◌+◌, ◌<◌, ◌≤◌, true, cond, List, [], ◌∷◌, map as mapped, refl, sym, ap, ◌∙◌, arith}
 use Rattle.std.specs.FinMap as map
-use Rattle.std.specs.FinMap.{entries_sorted}
 use Rattle.sqlite.specs.Order.{Row}
 use Rattle.sqlite.specs.Tree.{Trees}
 use Rattle.dr_base.specs.Texts.{text_cmp}
 use Rattle.dr_route.specs.Routes.{local}
 use Rattle.dr_ledger.specs.Books.{Line, Arrival}
-use Rattle.dr_ledger_views.specs.Numbers.{HaveNumbers, counted, is_within, lines_within}
+use Rattle.dr_ledger_views.specs.Numbers.{counted, is_within, lines_within}
 use Rattle.dr_ledger_views.proofs.Numbered.{within}
-use Rattle.dr_store_schema.specs.Books.{book_of, keeps_in, named_in, targets_in}
+use Rattle.dr_store_schema.specs.Books.{keeps_in, named_in, targets_in}
 use Rattle.dr_store_lists.specs.Lists.{Goal, line_of}
 use Rattle.dr_store_lists.specs.declared.listing.JournalRow.{JournalRow}
 use Rattle.dr_store_lists.specs.declared.listing.JournalRow.TheVariants as note
@@ -17,10 +16,6 @@ use Rattle.dr_store_audit.specs.Goals.{keep_of, to_of}
 use Rattle.dr_store_audit.specs.Journal.{line_told, lines_told}
 use Rattle.dr_store_audit.proofs.Goaled.{keeps, targets}
 use Rattle.dr_store_views.specs.Spans.{AreGoalsWithin, AreNotesWithin, CountsUp, numbered_of}
-
--- the journal's lines with their numbers, which rise
-pub are_numbered : (db : Trees) → HaveNumbers (book_of db).lines (numbered_of db)
-are_numbered db = record { told = refl; rise = entries_sorted _ }
 
 -- tables with these rows for target
 abbrev with_targets : Trees → List Row → Trees

@@ -1,5 +1,5 @@
 -- Calls on a ledger that keeps its tables.
-use Rattle.std.proofs.Common.{◌≡◌, ◌≢◌, ◌⊎◌, inl, inr, ℕ, List, [], Option, ◌+◌, ◌≤◌, ◌<◌, ◌^◌, ◌-◌, min, IsTrue, false, Result, Ok, Err, OnErr, OnOk, eq-or-lt_of_le, refl, sym, ap, subst, ◌∙◌, arith}
+use Rattle.std.proofs.Common.{◌≡◌, ◌≢◌, ◌⊎◌, inl, inr, ℕ, List, Option, ◌+◌, ◌≤◌, ◌<◌, ◌^◌, ◌-◌, min, IsTrue, false, Result, Ok, Err, OnErr, OnOk, eq-or-lt_of_le, refl, sym, ap, subst, ◌∙◌, arith}
 use Rattle.std.proofs.Math.Logic.{∥∥₁_elim, ∥∥₁_map}
 use mathlib.Core.Bool.{Bool-set}
 use Rattle.std.proofs.Math.Nat.{min-eq_left, min-eq_right}
@@ -10,13 +10,17 @@ use Rattle.sqlite_trees.specs.View.{doubt}
 use Rattle.dr_site.specs.Parts.{Part}
 use Rattle.dr_ledger.specs.declared.fault.LedgerFault.{LedgerFault}
 use Rattle.dr_ledger.specs.declared.fault.LedgerFault.TheVariants as fault
+use Rattle.dr_ledger.specs.Books.{Line}
 use Rattle.dr_ledger.specs.Refusals.{Arms}
 use Rattle.dr_ledger.specs.Replies.{Counts, HasRisen, IsLastingFault, PremiseLasts, LastsAfter, Reads}
-use Rattle.dr_store_schema.specs.Books.{book_of}
-use Rattle.dr_store_calls.specs.Calling.{Called, IsKept, IsLedgerOf, IsSafe, Looked, Nothing}
+use Rattle.dr_store_sealed.specs.declared.seal.Seal.{Seal}
+use Rattle.dr_store_past.specs.Lines.{past_in}
+use Rattle.dr_store_calls.specs.Calling.{Called, IsKept, IsLedgerOf, IsLeftLedger, IsSafe, Looked, Nothing}
 use Rattle.dr_store_calls.proofs.Reading.{reads_as}
 use Rattle.dr_store.specs.Counting.{failures_after}
 use Rattle.dr_store.specs.Owning.{HaveOwn, KeepsOwn, bodies_with}
+use Rattle.dr_store.specs.Pasts.{past_of, whole_book}
+use Rattle.dr_store.specs.Standing.{past_kept}
 use Rattle.dr_store.specs.Surviving.{MakesLedger, Wrote}
 use Rattle.dr_store.proofs.Stable.{Stable}
 
@@ -62,18 +66,22 @@ reads_stable (Err fault.NotOver) Shows f h = ∥∥₁_elim h (λ x y. absurd x)
 
 -- ---- a call on a ledger that keeps its tables
 
--- What is known of a call on the tables of a ledger, which are those of this part's before it and of that one's after it. Their cells are in use before it as `Uses` says.
-pub record Done {A : Type 0} (Uses : List ℕ → Type 0) (Apart : List ℕ → List ℕ → Type 0) (n m : ℕ) (part next : Part) (r : Result A LedgerFault) (old new : State) (Answers Makes : Trees → Trees → Type 0) : Type 0 where
+-- What is known of a call on the tables of a ledger, which are those of this part's before it and of that one's after it, over that past. Their cells are in use before it as `Uses` says.
+pub record Done {A : Type 0} (past : List Line) (Uses : List ℕ → Type 0) (Apart : List ℕ → List ℕ → Type 0) (n m : ℕ) (part next : Part) (r : Result A LedgerFault) (old new : State) (Answers Makes : Trees → Trees → Type 0) : Type 0 where
   pub clean : doubt old.is_clean ≤ doubt new.is_clean
   pub was_open : HasCleanDisk new → IsTrue new.is_open → IsTrue old.is_open
-  pub lasts : HasCleanDisk new → IsKept [] n part old → LastsAfter r (IsTrue new.is_open)
-  pub kept : HasCleanDisk new → IsTrue new.is_open → IsKept [] n part old → IsKept [] m next new
-  pub answers : HasCleanDisk new → IsTrue new.is_open → KeepsOwn Uses Apart n part old → Answers old.committed.trees new.committed.trees
-  pub crash : HasCleanDisk new → IsKept [] n part old → (db : Trees) → new.may_leave db → old.may_leave db ⊎ Makes old.committed.trees db
+  pub lasts : HasCleanDisk new → IsKept past n part old → LastsAfter r (IsTrue new.is_open)
+  pub kept : HasCleanDisk new → IsTrue new.is_open → IsKept past n part old → IsKept past m next new
+  pub answers : HasCleanDisk new → IsTrue new.is_open → KeepsOwn past Uses Apart n part old → Answers old.committed.trees new.committed.trees
+  pub crash : HasCleanDisk new → IsKept past n part old → (db : Trees) → new.may_leave db → old.may_leave db ⊎ Makes old.committed.trees db
 
-pub called : {A : Type 0} (Uses : List ℕ → Type 0) (Apart : List ℕ → List ℕ → Type 0) (n m : ℕ) (part : Part) (r : Result A LedgerFault) (old new : State) (Answers Makes : Trees → Trees → Type 0) → Called n m part r old new Nothing Answers Makes
-    → Done Uses Apart n m part part r old new Answers Makes
-called Uses Apart n m part r old new Answers Makes c = record {
+-- tables that are left over that past are left over their own
+pub left_whole : (all : List Line) (seal : Seal) (n : ℕ) (part : Part) (db : Trees) → IsLeftLedger (past_in all seal) n part db → IsLeftLedger (past_of all db) n part db
+left_whole all seal n part db l = subst (λ past. IsLeftLedger past n part db) (sym (past_kept all seal n part db l.ledger)) l
+
+pub called : {A : Type 0} (past : List Line) (Uses : List ℕ → Type 0) (Apart : List ℕ → List ℕ → Type 0) (n m : ℕ) (part : Part) (r : Result A LedgerFault) (old new : State) (Answers Makes : Trees → Trees → Type 0) → Called n m part r old new Nothing Answers Makes
+    → Done past Uses Apart n m part part r old new Answers Makes
+called past Uses Apart n m part r old new Answers Makes c = record {
   clean = c.clean;
   was_open = c.was_open;
   lasts = λ clean k. c.lasts clean k tt;
@@ -82,22 +90,26 @@ called Uses Apart n m part r old new Answers Makes c = record {
   crash = λ clean k db left. elim (c.crash clean k tt db left) [ inl before ↦ inl before | inr made ↦ inr made.1 ];
 }
 
--- the same, where what it makes is a ledger's tables
-pub called_whole : {A : Type 0} (Uses : List ℕ → Type 0) (Apart : List ℕ → List ℕ → Type 0) (n m : ℕ) (part : Part) (r : Result A LedgerFault) (old new : State) (Answers Makes : Trees → Trees → Type 0) → Called n m part r old new Nothing Answers Makes
-    → Done Uses Apart n m part part r old new Answers (MakesLedger part Makes)
-called_whole Uses Apart n m part r old new Answers Makes c = record {
+-- the same, where what it makes is a ledger's tables, of which more is said with their past
+pub called_whole : {A : Type 0} (all : List Line) (seal : Seal) (Uses : List ℕ → Type 0) (Apart : List ℕ → List ℕ → Type 0) (n m : ℕ) (part : Part) (r : Result A LedgerFault) (old new : State) (Answers Makes Whole : Trees → Trees → Type 0)
+    → ((db : Trees) → IsLedgerOf (past_in all seal) n part old.committed.trees → IsLedgerOf (past_in all seal) (n + 1) part db → Makes old.committed.trees db → Whole old.committed.trees db) → Called n m part r old new Nothing Answers Makes
+    → Done (past_in all seal) Uses Apart n m part part r old new Answers (MakesLedger all part Whole)
+called_whole all seal Uses Apart n m part r old new Answers Makes Whole says c = record {
   clean = c.clean;
   was_open = c.was_open;
   lasts = λ clean k. c.lasts clean k tt;
   kept = λ clean is_open k. c.kept clean is_open k tt;
   answers = λ clean is_open k. c.answers clean is_open k.kept tt;
-  crash = λ clean k db left. elim (c.crash clean k tt db left) [ inl before ↦ inl before | inr made ↦ inr ((n + 1, made.0), made.1) ];
+  crash = λ clean k db left. elim (c.crash clean k tt db left) [
+    | inl before ↦ inl before
+    | inr made ↦ inr ((n + 1, left_whole all seal (n + 1) part db made.0), says db k.ledger made.0.ledger made.1)
+  ];
 }
 
 -- what it answers says this too, of the tables of ledgers whose cells are in use
-pub answering : {A : Type 0} (Uses : List ℕ → Type 0) (Apart : List ℕ → List ℕ → Type 0) (n m : ℕ) (part next : Part) (r : Result A LedgerFault) (old new : State) (Answers Says Makes : Trees → Trees → Type 0)
-    → (IsLedgerOf [] n part old.committed.trees → IsLedgerOf [] m next new.committed.trees → HaveOwn Uses Apart old.committed.trees → Answers old.committed.trees new.committed.trees → Says old.committed.trees new.committed.trees) → Done Uses Apart n m part next r old new Answers Makes → Done Uses Apart n m part next r old new Says Makes
-answering Uses Apart n m part next r old new Answers Says Makes says d = record {
+pub answering : {A : Type 0} (past : List Line) (Uses : List ℕ → Type 0) (Apart : List ℕ → List ℕ → Type 0) (n m : ℕ) (part next : Part) (r : Result A LedgerFault) (old new : State) (Answers Says Makes : Trees → Trees → Type 0)
+    → (IsLedgerOf past n part old.committed.trees → IsLedgerOf past m next new.committed.trees → HaveOwn Uses Apart old.committed.trees → Answers old.committed.trees new.committed.trees → Says old.committed.trees new.committed.trees) → Done past Uses Apart n m part next r old new Answers Makes → Done past Uses Apart n m part next r old new Says Makes
+answering past Uses Apart n m part next r old new Answers Says Makes says d = record {
   clean = d.clean;
   was_open = d.was_open;
   lasts = d.lasts;
@@ -109,13 +121,13 @@ answering Uses Apart n m part next r old new Answers Says Makes says d = record 
 is_open : (s : State) → ∥ IsTrue s.is_open ∥₁ → IsTrue s.is_open
 is_open s h = ∥∥₁_elim h (Bool-set _ _) (λ x. x)
 
-module _ {A : Type 0} {Uses : List ℕ → Type 0} {Apart : List ℕ → List ℕ → Type 0} (n m : ℕ) (part next : Part) (r : Result A LedgerFault) (old new : State) (Answers Makes : Trees → Trees → Type 0) (kept : IsSafe old → ∥ KeepsOwn Uses Apart n part old ∥₁)
-    (c : Done Uses Apart n m part next r old new Answers Makes) where
+module _ {A : Type 0} {past : List Line} {Uses : List ℕ → Type 0} {Apart : List ℕ → List ℕ → Type 0} (n m : ℕ) (part next : Part) (r : Result A LedgerFault) (old new : State) (Answers Makes : Trees → Trees → Type 0) (kept : IsSafe old → ∥ KeepsOwn past Uses Apart n part old ∥₁)
+    (c : Done past Uses Apart n m part next r old new Answers Makes) where
   pub was_safe : IsSafe new → IsSafe old
   was_safe safe = (omega (arith, c.clean, safe.0), c.was_open safe.0 safe.1)
 
-  pub still_kept : (Uses' : List ℕ → Type 0) → (IsKept [] n part old → Answers old.committed.trees new.committed.trees → HaveOwn Uses Apart old.committed.trees → HaveOwn Uses' Apart new.committed.trees)
-      → IsSafe new → ∥ KeepsOwn Uses' Apart m next new ∥₁
+  pub still_kept : (Uses' : List ℕ → Type 0) → (IsKept past n part old → Answers old.committed.trees new.committed.trees → HaveOwn Uses Apart old.committed.trees → HaveOwn Uses' Apart new.committed.trees)
+      → IsSafe new → ∥ KeepsOwn past Uses' Apart m next new ∥₁
   still_kept Uses' owns safe = ∥∥₁_map (kept (was_safe safe)) (λ k. record { kept = c.kept safe.0 safe.1 k.kept; own = owns k.kept (c.answers safe.0 safe.1 k) k.own })
 
   pub answered : Stable (Answers old.committed.trees new.committed.trees) → IsSafe new → Answers old.committed.trees new.committed.trees
@@ -136,8 +148,8 @@ module _ {A : Type 0} {Uses : List ℕ → Type 0} {Apart : List ℕ → List �
 
 -- ---- a call that writes
 
-module _ {A : Type 0} {Uses : List ℕ → Type 0} {Apart : List ℕ → List ℕ → Type 0} (n m : ℕ) (part next : Part) (r : Result A LedgerFault) (old new : State) (Answers Makes : Trees → Trees → Type 0) (kept : IsSafe old → ∥ KeepsOwn Uses Apart n part old ∥₁)
-    (c : Done Uses Apart n m part next r old new Answers Makes)
+module _ {A : Type 0} {past : List Line} {Uses : List ℕ → Type 0} {Apart : List ℕ → List ℕ → Type 0} (n m : ℕ) (part next : Part) (r : Result A LedgerFault) (old new : State) (Answers Makes : Trees → Trees → Type 0) (kept : IsSafe old → ∥ KeepsOwn past Uses Apart n part old ∥₁)
+    (c : Done past Uses Apart n m part next r old new Answers Makes)
     (was_settled : (db : Trees) → IsTrue old.is_open → old.may_leave db → db ≡ old.committed.trees)
     (is_settled : (db : Trees) → IsTrue new.is_open → new.may_leave db → db ≡ new.committed.trees)
     (answers : Stable (Answers old.committed.trees new.committed.trees)) where
@@ -159,33 +171,21 @@ module _ {A : Type 0} {Uses : List ℕ → Type 0} {Apart : List ℕ → List �
         durable = stands r lasts.lasts;
       }
 
--- what it makes says less
-pub making : {A : Type 0} (Uses : List ℕ → Type 0) (Apart : List ℕ → List ℕ → Type 0) (n m : ℕ) (part next : Part) (r : Result A LedgerFault) (old new : State) (Answers Makes Less : Trees → Trees → Type 0)
-    → ((base db : Trees) → Makes base db → Less base db) → Done Uses Apart n m part next r old new Answers Makes → Done Uses Apart n m part next r old new Answers Less
-making Uses Apart n m part next r old new Answers Makes Less less d = record {
-  clean = d.clean;
-  was_open = d.was_open;
-  lasts = d.lasts;
-  kept = d.kept;
-  answers = d.answers;
-  crash = λ clean k db left. elim (d.crash clean k db left) [ inl before ↦ inl before | inr made ↦ inr (less old.committed.trees db made) ];
-}
-
 -- ---- what a crash leaves has its cells
 
-module _ {A : Type 0} {Uses : List ℕ → Type 0} {Apart : List ℕ → List ℕ → Type 0} (n m : ℕ) (part next : Part) (r : Result A LedgerFault) (old new : State) (Answers Makes : Trees → Trees → Type 0) (kept : IsSafe old → ∥ KeepsOwn Uses Apart n part old ∥₁)
-    (c : Done Uses Apart n m part next r old new Answers Makes)
+module _ {A : Type 0} {past : List Line} {Uses : List ℕ → Type 0} {Apart : List ℕ → List ℕ → Type 0} (n m : ℕ) (part next : Part) (r : Result A LedgerFault) (old new : State) (Answers Makes : Trees → Trees → Type 0) (kept : IsSafe old → ∥ KeepsOwn past Uses Apart n part old ∥₁)
+    (c : Done past Uses Apart n m part next r old new Answers Makes)
     (was_settled : (db : Trees) → IsTrue old.is_open → old.may_leave db → db ≡ old.committed.trees)
     (is_settled : (db : Trees) → IsTrue new.is_open → new.may_leave db → db ≡ new.committed.trees) where
   -- after a call that was accepted it is what was committed, and after another what was there, or what the call makes
   pub covered : (P : Trees → Type 0)
-      → (IsKept [] n part old → Answers old.committed.trees new.committed.trees → HaveOwn Uses Apart old.committed.trees → P new.committed.trees)
-      → OnErr r (IsKept [] n part old → HaveOwn Uses Apart old.committed.trees → (db : Trees) → (db ≡ old.committed.trees) ⊎ Makes old.committed.trees db → P db)
+      → (IsKept past n part old → Answers old.committed.trees new.committed.trees → HaveOwn Uses Apart old.committed.trees → P new.committed.trees)
+      → OnErr r (IsKept past n part old → HaveOwn Uses Apart old.committed.trees → (db : Trees) → (db ≡ old.committed.trees) ⊎ Makes old.committed.trees db → P db)
       → HasCleanDisk new → IsSafe old → (db : Trees) → new.may_leave db → ∥ P db ∥₁
   covered P owns failed clean safe db may = go r (lasting n m part next r old new Answers Makes kept c).lasts failed
     where
       go : (q : Result A LedgerFault) → LastsAfter q (HasCleanDisk new → IsSafe old → IsSafe new)
-          → OnErr q (IsKept [] n part old → HaveOwn Uses Apart old.committed.trees → (db : Trees) → (db ≡ old.committed.trees) ⊎ Makes old.committed.trees db → P db)
+          → OnErr q (IsKept past n part old → HaveOwn Uses Apart old.committed.trees → (db : Trees) → (db ≡ old.committed.trees) ⊎ Makes old.committed.trees db → P db)
           → ∥ P db ∥₁
       go (Ok value) lasts any =
           let now = lasts clean safe in
@@ -211,45 +211,45 @@ with_shelf {A} r Was Is Trusted Trusts Stood Stands was l = record { trusted = �
 
 -- ---- a call that reads
 
-module _ {A : Type 0} {Uses : List ℕ → Type 0} {Apart : List ℕ → List ℕ → Type 0} (n : ℕ) (part : Part) (r : Result A LedgerFault) (old new : State) (Shows : Trees → A → Type 0) (kept : IsSafe old → ∥ KeepsOwn Uses Apart n part old ∥₁)
+module _ {A : Type 0} {past : List Line} {Uses : List ℕ → Type 0} {Apart : List ℕ → List ℕ → Type 0} (n : ℕ) (part : Part) (r : Result A LedgerFault) (old new : State) (Shows : Trees → A → Type 0) (kept : IsSafe old → ∥ KeepsOwn past Uses Apart n part old ∥₁)
     (l : Looked n part r old new Shows) where
   abbrev Same : Trees → Trees → Type 0
   Same base db = (db ≡ base) × Reads r (Shows base)
 
-  done : Done Uses Apart n n part part r old new Same (λ base db. ⊥)
-  done = called Uses Apart n n part r old new Same (λ base db. ⊥) l
+  done : Done past Uses Apart n n part part r old new Same (λ base db. ⊥)
+  done = called past Uses Apart n n part r old new Same (λ base db. ⊥) l
 
   pub looked_safe : IsSafe new → IsSafe old
   looked_safe = was_safe n n part part r old new Same (λ base db. ⊥) kept done
 
   -- where the shelf was read too
-  pub looked_kept_by : (Uses' : List ℕ → Type 0) → (HaveOwn Uses Apart old.committed.trees → HaveOwn Uses' Apart old.committed.trees) → IsSafe new → ∥ KeepsOwn Uses' Apart n part new ∥₁
+  pub looked_kept_by : (Uses' : List ℕ → Type 0) → (HaveOwn Uses Apart old.committed.trees → HaveOwn Uses' Apart old.committed.trees) → IsSafe new → ∥ KeepsOwn past Uses' Apart n part new ∥₁
   looked_kept_by Uses' still = still_kept n n part part r old new Same (λ base db. ⊥) kept done Uses' (λ k it own. subst (HaveOwn Uses' Apart) (sym it.0) (still own))
 
-  pub looked_kept : IsSafe new → ∥ KeepsOwn Uses Apart n part new ∥₁
+  pub looked_kept : IsSafe new → ∥ KeepsOwn past Uses Apart n part new ∥₁
   looked_kept = looked_kept_by Uses (λ own. own)
 
   pub looked_same : IsSafe new → new.committed.trees ≡ old.committed.trees
   looked_same safe = ∥∥₁_elim (kept (looked_safe safe)) (Trees-set _ _) (λ k. (l.answers safe.0 safe.1 k.kept tt).0)
 
-  pub looked_books : (read_of : List ℕ → Option (List ℕ)) → IsSafe new → (book_of new.committed.trees ≡ book_of old.committed.trees) × (bodies_with read_of new.committed.trees ≡ bodies_with read_of old.committed.trees)
-  looked_books read_of safe = (ap book_of (looked_same safe), ap (bodies_with read_of) (looked_same safe))
+  pub looked_books : (all : List Line) (read_of : List ℕ → Option (List ℕ)) → IsSafe new → (whole_book all new.committed.trees ≡ whole_book all old.committed.trees) × (bodies_with read_of new.committed.trees ≡ bodies_with read_of old.committed.trees)
+  looked_books all read_of safe = (ap (whole_book all) (looked_same safe), ap (bodies_with read_of) (looked_same safe))
 
   pub looked_reads : ((a : A) → Stable (Shows old.committed.trees a)) → IsSafe new → Reads r (Shows old.committed.trees)
   looked_reads stable safe = reads_stable r (Shows old.committed.trees) stable (∥∥₁_map (kept (looked_safe safe)) (λ k. (l.answers safe.0 safe.1 k.kept tt).1))
 
   -- what it shows, where the cells are in use
-  pub looked_says : (Says : A → Type 0) → (KeepsOwn Uses Apart n part old → (a : A) → Shows old.committed.trees a → Says a) → ((a : A) → Stable (Says a)) → IsSafe new → Reads r Says
+  pub looked_says : (Says : A → Type 0) → (KeepsOwn past Uses Apart n part old → (a : A) → Shows old.committed.trees a → Says a) → ((a : A) → Stable (Says a)) → IsSafe new → Reads r Says
   looked_says Says says stable safe =
       reads_stable r Says stable (∥∥₁_map (kept (looked_safe safe)) (λ k. reads_as r (Shows old.committed.trees) Says (says k) (l.answers safe.0 safe.1 k.kept tt).1))
 
-module _ {A : Type 0} {Uses : List ℕ → Type 0} {Apart : List ℕ → List ℕ → Type 0} (n : ℕ) (part : Part) (r : Result A LedgerFault) (old new : State) (Shows : Trees → A → Type 0) where
+module _ {A : Type 0} {past : List Line} {Uses : List ℕ → Type 0} {Apart : List ℕ → List ℕ → Type 0} (n : ℕ) (part : Part) (r : Result A LedgerFault) (old new : State) (Shows : Trees → A → Type 0) where
   -- the premise lasts through a call that reads, where the cells are kept as long as the shelf is clean
-  pub looked_lasting_by : (Was Is : Type 0) → (Is → Was) → (Was → IsSafe old → ∥ KeepsOwn Uses Apart n part old ∥₁) → Looked n part r old new Shows → PremiseLasts r (HasCleanDisk old × Was) (HasCleanDisk new × Is) (IsSafe old × Was) (IsSafe new × Is)
+  pub looked_lasting_by : (Was Is : Type 0) → (Is → Was) → (Was → IsSafe old → ∥ KeepsOwn past Uses Apart n part old ∥₁) → Looked n part r old new Shows → PremiseLasts r (HasCleanDisk old × Was) (HasCleanDisk new × Is) (IsSafe old × Was) (IsSafe new × Is)
   looked_lasting_by Was Is was kept l =
       let Same : Trees → Trees → Type 0 = λ base db. (db ≡ base) × Reads r (Shows base) in
       let None : Trees → Trees → Type 0 = λ base db. ⊥ in
-      with_shelf r Was Is (HasCleanDisk old) (HasCleanDisk new) (IsSafe old) (IsSafe new) was (λ is. lasting n n part part r old new Same None (kept (was is)) (called Uses Apart n n part r old new Same None l))
+      with_shelf r Was Is (HasCleanDisk old) (HasCleanDisk new) (IsSafe old) (IsSafe new) was (λ is. lasting n n part part r old new Same None (kept (was is)) (called past Uses Apart n n part r old new Same None l))
 
-  pub looked_lasting : (Clean : Type 0) → (Clean → IsSafe old → ∥ KeepsOwn Uses Apart n part old ∥₁) → Looked n part r old new Shows → PremiseLasts r (HasCleanDisk old × Clean) (HasCleanDisk new × Clean) (IsSafe old × Clean) (IsSafe new × Clean)
+  pub looked_lasting : (Clean : Type 0) → (Clean → IsSafe old → ∥ KeepsOwn past Uses Apart n part old ∥₁) → Looked n part r old new Shows → PremiseLasts r (HasCleanDisk old × Clean) (HasCleanDisk new × Clean) (IsSafe old × Clean) (IsSafe new × Clean)
   looked_lasting Clean kept l = looked_lasting_by Clean Clean (λ clean. clean) kept l

@@ -14,7 +14,7 @@ use Rattle.dr_site.specs.Parts.{Part}
 use Rattle.dr_ledger.specs.declared.content.Job.{Job}
 use Rattle.dr_ledger.specs.declared.item.Instance.{Instance}
 use Rattle.dr_ledger.specs.Bodies.{Bodies, HasAll, IsThere, LosesNone, OnlyLetsGo}
-use Rattle.dr_ledger.specs.Books.{Book}
+use Rattle.dr_ledger.specs.Books.{Book, Line}
 use Rattle.dr_ledger.specs.Items.{IsItem, instance_of}
 use Rattle.dr_store_shelf.specs.Tested.{those_if}
 use Rattle.dr_store_schema.specs.Books.{bodies_of, book_of, items_of}
@@ -35,10 +35,11 @@ pub record HaveOwn (Uses : List ℕ → Type 0) (Apart : List ℕ → List ℕ �
   pub used : AreUsed Uses (bodies_of db)
   pub apart : AreEachApart Apart (bodies_of db)
 
--- The store is open, with the tables of a ledger of that site, whose cells are in use.
-pub record KeepsOwn (Uses : List ℕ → Type 0) (Apart : List ℕ → List ℕ → Type 0)
+-- The store is open, with the tables of a ledger of that site over that past, whose cells are in
+-- use.
+pub record KeepsOwn (past : List Line) (Uses : List ℕ → Type 0) (Apart : List ℕ → List ℕ → Type 0)
     (n : ℕ) (part : Part) (s : State) : Type 0 where
-  pub kept : IsKept [] n part s
+  pub kept : IsKept past n part s
   pub own : HaveOwn Uses Apart s.committed.trees
 
 -- each cell stands for the data set of an item, which is the book's

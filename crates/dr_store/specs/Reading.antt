@@ -15,7 +15,7 @@ use Rattle.dr_ledger.specs.declared.fault.LedgerFault.TheVariants as fault
 use Rattle.dr_ledger.specs.declared.item.Instance.{Instance}
 use Rattle.dr_ledger.specs.declared.item.Progress.{Progress}
 use Rattle.dr_ledger.specs.Bodies.{Bodies, IsNeeded, IsThere}
-use Rattle.dr_ledger.specs.Books.{Book, is_queued}
+use Rattle.dr_ledger.specs.Books.{Book, Line, is_queued}
 use Rattle.dr_ledger.specs.Pairs.{Pair}
 use Rattle.dr_ledger.specs.Replies.{Counts, PremiseLasts}
 use Rattle.dr_store_schema.specs.Books.{book_of, contents_in, items_of}
@@ -26,6 +26,7 @@ use Rattle.dr_store_reads.specs.Queries.{IsFirstDue}
 use Rattle.dr_store.specs.declared.due.DueRow.{DueRow}
 use Rattle.dr_store.specs.DataSets.{IsDataSetOf, job_with}
 use Rattle.dr_store.specs.Owning.{bodies_with}
+use Rattle.dr_store.specs.Pasts.{whole_book}
 
 -- the instance of that uid, with what stands in its row for its data set
 abbrev pub IsRowOf : Text → Trees → DueRow → Type 0
@@ -106,13 +107,14 @@ AdmitsKnown known.Other result = result ≡ Err fault.Conflict
 AdmitsKnown (known.Same whole) result = result ≡ Ok tt
 
 -- What a call that reads data sets leaves: the book and what can be read are as they were, and so
--- is the count of failures, but where the store fails. `Was` and `Is` say that the shelf is clean.
-pub record LeavesAsRead {A : Type 0} (result : Result A LedgerFault)
+-- is the count of failures, but where the store fails. `Was` and `Is` say that the shelf and the
+-- past are clean, and `all` are all lines that are ever sealed.
+pub record LeavesAsRead {A : Type 0} (all : List Line) (result : Result A LedgerFault)
     (was_of read_of : List ℕ → Option (List ℕ)) (Was Is : Type 0)
     (old new : State) (before now : ℕ) : Type 0 where
   pub same : Is
       → IsSafe new
-      → (book_of new.committed.trees ≡ book_of old.committed.trees)
+      → (whole_book all new.committed.trees ≡ whole_book all old.committed.trees)
       × (bodies_with read_of new.committed.trees ≡ bodies_with was_of old.committed.trees)
   pub stood : Is → IsSafe new → IsSafe old × Was
   pub lasts : PremiseLasts result

@@ -1,24 +1,35 @@
 -- What data sets of tables there are, by what can be read by their cells.
 use Rattle.std.proofs.Common.{◌≡◌, ℕ, Bool, true, false, cond, List, [], ◌∷◌, Option, Some, None}
 use Rattle.std.proofs.Common.{option_map, is_some, unwrap_or, refl, sym, ap, subst, ◌∙◌}
+use Rattle.std.proofs.Common.{length, take}
 use Rattle.std.proofs.Common.{map as mapped}
 use Rattle.std.specs.Prelude.{option_and_then}
 use Rattle.std.specs.Cmp.Lexicographic.{nat_list_cmp_total}
 use Rattle.std.specs.FinMap as map
 use Rattle.std.specs.FinMap.{find}
 use Rattle.std.specs.Ordering.{eq_by_cmp}
+use Rattle.std.proofs.lemmas.List.{length-take, take_min}
 use Rattle.std.proofs.lemmas.Map.Lookups.{exact_bytes}
 use Rattle.sqlite.specs.Tree.{Trees}
 use Rattle.dr_base.specs.Texts.{Text, text_cmp}
 use Rattle.dr_ledger.specs.declared.content.Job.{Job}
 use Rattle.dr_ledger.specs.declared.item.Instance.{Instance}
 use Rattle.dr_ledger.specs.Bodies.{HasBodies}
+use Rattle.dr_ledger.specs.Books.{Line}
+use Rattle.dr_ledger.specs.Histories.{IsJournalled}
+use Rattle.dr_ledger.specs.SiteRoutes.{site_routing}
+use Rattle.dr_ledger_past.specs.Pasts.{with_past}
+use Rattle.dr_site.specs.Parts.{Part}
+use Rattle.dr_store_sealed.specs.declared.seal.Seal.{Seal}
+use Rattle.dr_store_past.specs.Lines.{past_in}
+use Rattle.dr_store_calls.specs.Calling.{IsLedgerOf}
 use Rattle.dr_ledger.specs.Items.{IsItem, instance_of}
 use Rattle.dr_store_shelf.specs.Tested.{all_if, those_if}
 use Rattle.dr_store_schema.specs.Books.{bodies_of, book_of, items_of}
 use Rattle.dr_store_changes.specs.Bringing.{HasCells}
 use Rattle.dr_store.specs.DataSets.{IsDataSetOf, data_set_told, job_with}
 use Rattle.dr_store.specs.Owning.{IsReadAt, bodies_with, body_under, data_set_at, read_where}
+use Rattle.dr_store.specs.Pasts.{past_of, whole_book}
 
 -- an item is that of its instance
 pub its_own : (item : Job) → IsItem item → IsDataSetOf (instance_of item) item.body
@@ -146,10 +157,11 @@ module _ (read_of : List ℕ → Option (List ℕ)) where
         ∙ ap (read_where (Some (instance_of it.item))) it.reads
         ∙ all_if body (data_set_told (instance_of it.item) body) own
 
--- the data sets are such as the book needs
-pub has_bodies : (read_of : List ℕ → Option (List ℕ)) (db : Trees)
-    → HasCells (book_of db) (bodies_of db) → HasBodies (book_of db) (bodies_with read_of db)
-has_bodies read_of db has = record {
+-- the data sets are such as the whole book needs
+pub has_bodies : (all : List Line) (read_of : List ℕ → Option (List ℕ)) (db : Trees)
+    → HasCells (book_of db) (bodies_of db)
+    → HasBodies (whole_book all db) (bodies_with read_of db)
+has_bodies all read_of db has = record {
   there = λ uid body is.
       let it = is_read read_of db uid body is in
       (has.there uid).0 (it.cell, it.there);
@@ -157,3 +169,21 @@ has_bodies read_of db has = record {
       let it = is_read read_of db uid body is in
       (it.item, it.is_item, it.same, it.known);
 }
+
+-- as many of the lines as the first of them are, are these
+taken_again : (k : ℕ) (all : List Line) → take (length (take k all)) all ≡ take k all
+taken_again k all = ap (λ n. take n all) (length-take k all) ∙ take_min k all
+
+-- Tables of a ledger over as much of the past as a seal counts have just that past.
+pub past_kept : (all : List Line) (seal : Seal) (n : ℕ) (part : Part) (db : Trees)
+    → IsLedgerOf (past_in all seal) n part db → past_of all db ≡ past_in all seal
+past_kept all seal n part db l =
+    ap (λ n. take n all) (sym l.counted) ∙ taken_again seal.count all
+
+-- So their journal makes their whole book.
+pub is_journalled : (all : List Line) (seal : Seal) (n : ℕ) (part : Part) (db : Trees)
+    → IsLedgerOf (past_in all seal) n part db
+    → IsJournalled (site_routing part) (whole_book all db)
+is_journalled all seal n part db l =
+    subst (λ past. IsJournalled (site_routing part) (with_past past (book_of db)))
+    (sym (past_kept all seal n part db l)) l.journalled

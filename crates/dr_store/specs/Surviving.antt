@@ -1,5 +1,6 @@
--- A call that writes, by the tables before and after it, and what a crash leaves of it.
-use Rattle.std.specs.Prelude.{◌≡◌, ◌⊎◌, ℕ, [], Result, Ok, Err, OnOk}
+-- A call that writes, by the tables before and after it, and what a crash leaves of it. `all` are
+-- all lines that are ever sealed: they say the whole book of each content of the tables.
+use Rattle.std.specs.Prelude.{◌≡◌, ◌⊎◌, ℕ, List, Result, Ok, Err, OnOk}
 use Rattle.sqlite.specs.State.{State, HasCleanDisk}
 use Rattle.sqlite.specs.Tree.{Trees}
 use Rattle.dr_base.specs.Texts.{Text}
@@ -8,20 +9,20 @@ use Rattle.dr_ledger.specs.declared.fault.LedgerFault.{LedgerFault}
 use Rattle.dr_ledger.specs.declared.item.Instance.{Instance}
 use Rattle.dr_ledger.specs.declared.item.Outcome.{Outcome}
 use Rattle.dr_ledger.specs.Adopting.{Adopting}
-use Rattle.dr_ledger.specs.Books.{Book}
+use Rattle.dr_ledger.specs.Books.{Book, Line}
 use Rattle.dr_ledger.specs.Replies.{Drops, Forgets, PremiseLasts, Requeues, Settles}
-use Rattle.dr_store_schema.specs.Books.{book_of}
 use Rattle.dr_store_calls.specs.Adoptions.{IsAdopted, IsTakenOver}
 use Rattle.dr_store_calls.specs.Calling.{IsLeftLedger, IsSafe}
 use Rattle.dr_store_calls.specs.Knowing.{IsAccepted}
+use Rattle.dr_store.specs.Pasts.{past_of, whole_book}
 
--- the trees have a ledger of that site, in a ledger's tables
-abbrev pub HasLedger : Part → Trees → Type 0
-HasLedger part db = (n : ℕ) × IsLeftLedger [] n part db
+-- the trees have a ledger of that site, over their past, in a ledger's tables
+abbrev pub HasLedger : List Line → Part → Trees → Type 0
+HasLedger all part db = (n : ℕ) × IsLeftLedger (past_of all db) n part db
 
 -- what a call makes of tables, which is a ledger of that site
-abbrev pub MakesLedger : Part → (Trees → Trees → Type 0) → Trees → Trees → Type 0
-MakesLedger part Makes base db = HasLedger part db × Makes base db
+abbrev pub MakesLedger : List Line → Part → (Trees → Trees → Type 0) → Trees → Trees → Type 0
+MakesLedger all part Makes base db = HasLedger all part db × Makes base db
 
 -- It answers for the tables committed before and after it, while the disk has returned what was
 -- written and the store is open; only a failed store or want of memory ends that. A crash after it
@@ -43,6 +44,11 @@ abbrev pub TakesOver : Part → Result (Unit {0}) LedgerFault → Trees → Tree
 TakesOver next (Ok done) base db = ∥ IsTakenOver next base db ∥₁
 TakesOver next (Err why) base db = db ≡ base
 
+-- the whole book after an adoption that was accepted, in tables that the next site has taken over
+abbrev pub AdoptsWhole : List Line → Part → Trees → Trees → Type 0
+AdoptsWhole all next base db =
+    Adopting (whole_book all base) (Ok tt) (whole_book all db) × IsAdopted next base db
+
 -- ---- laws
 
 -- whatever it answers, and whatever it makes
@@ -54,34 +60,41 @@ abbrev pub MakesNone : Trees → Trees → Type 0
 MakesNone base db = ⊥
 
 -- what a crash leaves is told by the books: the one from before, or the one that the call makes
-abbrev pub IsToldByBooks : (Trees → Trees → Type 0) → (Book → Book → Type 0) → Type 0
-IsToldByBooks Makes Accepts =
+abbrev pub IsToldByBooks : List Line
+    → (Trees → Trees → Type 0) → (Book → Book → Type 0) → Type 0
+IsToldByBooks all Makes Accepts =
     (base db : Trees)
     → ∥ (db ≡ base) ⊎ Makes base db ∥₁
-    → (book_of db ≡ book_of base) ⊎ Accepts (book_of base) (book_of db)
+    → (whole_book all db ≡ whole_book all base)
+    ⊎ Accepts (whole_book all base) (whole_book all db)
 
 -- so it is of each call, as its clause says what the call makes
-pub record CrashesAreTold : Type 0 where
+pub record CrashesAreTold (all : List Line) : Type 0 where
   pub arrival : (part : Part) (caller : Text) (item : Instance)
-      → IsToldByBooks
-      (MakesLedger part (λ base db. IsAccepted part caller item (book_of base) (book_of db)))
+      → IsToldByBooks all
+      (MakesLedger all part
+      (λ base db. IsAccepted part caller item (whole_book all base) (whole_book all db)))
       (IsAccepted part caller item)
   pub settling : (part : Part) (uid dest : Text) (outcome : Outcome) (now : ℕ)
-      → IsToldByBooks
-      (MakesLedger part
-      (λ base db. Settles uid dest outcome now (book_of base) (Ok tt) (book_of db)))
+      → IsToldByBooks all
+      (MakesLedger all part
+      (λ base db. Settles uid dest outcome now (whole_book all base) (Ok tt) (whole_book all db)))
       (λ old new. Settles uid dest outcome now old (Ok tt) new)
   pub requeuing : (part : Part) (uid dest : Text)
-      → IsToldByBooks
-      (MakesLedger part (λ base db. Requeues uid dest (book_of base) (Ok tt) (book_of db)))
+      → IsToldByBooks all
+      (MakesLedger all part
+      (λ base db. Requeues uid dest (whole_book all base) (Ok tt) (whole_book all db)))
       (λ old new. Requeues uid dest old (Ok tt) new)
   pub dropping : (part : Part) (uid dest : Text) (now : ℕ)
-      → IsToldByBooks
-      (MakesLedger part (λ base db. Drops uid dest now (book_of base) (Ok tt) (book_of db)))
+      → IsToldByBooks all
+      (MakesLedger all part
+      (λ base db. Drops uid dest now (whole_book all base) (Ok tt) (whole_book all db)))
       (λ old new. Drops uid dest now old (Ok tt) new)
   pub forgetting : (part : Part) (uid : Text)
-      → IsToldByBooks
-      (MakesLedger part (λ base db. Forgets uid (book_of base) (Ok tt) (book_of db)))
+      → IsToldByBooks all
+      (MakesLedger all part
+      (λ base db. Forgets uid (whole_book all base) (Ok tt) (whole_book all db)))
       (λ old new. Forgets uid old (Ok tt) new)
   pub adoption : (next : Part)
-      → IsToldByBooks (MakesLedger next (IsAdopted next)) (λ old new. Adopting old (Ok tt) new)
+      → IsToldByBooks all (MakesLedger all next (AdoptsWhole all next))
+      (λ old new. Adopting old (Ok tt) new)

@@ -1,12 +1,15 @@
-//! Laws of what a crash leaves of a call that writes, and of the data sets that can be read.
-ghost use Rattle.std.specs.Prelude.{◌≡◌, Err, Ok};
+//! Laws of what a crash leaves of a call that writes, of whole books, and of the data sets that can
+//! be read.
+ghost use Rattle.std.specs.Prelude.{◌≡◌, Err, List, Ok};
 ghost use Rattle.sqlite.specs.Held.{state};
 ghost use Rattle.sqlite.specs.State.{HasCleanDisk};
 ghost use Rattle.sqlite.specs.Tree.{Trees};
 ghost use Rattle.dr_ledger.specs.declared.fault.LedgerFault.{LedgerFault};
+ghost use Rattle.dr_ledger.specs.Books.{Line};
 ghost use Rattle.dr_store_calls.specs.Calling.{IsSafe};
 ghost use Rattle.dr_store.specs.Owning.{AllThatStandAreThere, BodiesAreWhatIsRead, ItsOwnIsThere};
 ghost use Rattle.dr_store.specs.Owning.{OtherBytesAreNotThere, OtherItemsAreNotThere};
+ghost use Rattle.dr_store.specs.Pasts.{BooksAreWhole, NoneSealedIsNoPast};
 ghost use Rattle.dr_store.specs.Surviving.{CrashesAreTold, MakesNone, Whatever, Wrote};
 
 use dr_store_shelf::Shelf;
@@ -36,10 +39,21 @@ pub fn what_makes_nothing_leaves_all<S: Alter>(before: &Connection<S>, after: &C
         → ∥ db ≡ (state S.Store before.now).committed.trees ∥₁ }
 {}
 
-/// What a crash leaves of a call is told by the books: the one from before the call, or the one
-/// that the accepted call makes.
+/// What a crash leaves of a call is told by the whole books: the one from before the call, or the
+/// one that the accepted call makes.
 pub fn a_crash_is_told_by_books()
-    ensures { CrashesAreTold }
+    ensures { (all : List Line) → CrashesAreTold all }
+{}
+
+/// Where no line has left the tables, their own book is the whole one.
+pub fn tables_alone_have_the_whole_book()
+    ensures { NoneSealedIsNoPast }
+{}
+
+/// A ledger's whole book has the lines of its past before those of its tables, and its journal
+/// makes it.
+pub fn books_have_their_past()
+    ensures { BooksAreWhole }
 {}
 
 /// A data set is there just where it can be read: its bytes can be read by its cell, and are those

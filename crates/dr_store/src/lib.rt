@@ -12,6 +12,7 @@ mod due;
 pub mod laws;
 mod ledger;
 mod listing;
+mod past;
 mod reading;
 mod telling;
 

@@ -1,17 +1,22 @@
-//! The whole journal, each line with the instance that it is of, and as it is shown.
-ghost use Rattle.std.specs.Prelude.{◌≡◌, ◌<◌, ◌^◌, ℕ, false, IfOk, map as mapped};
+//! The journal, each line with the instance that it is of, and as it is shown: the lines of the
+//! past, and then those of the tables.
+ghost use Rattle.std.specs.Prelude.{◌≡◌, ◌++◌, ◌-◌, ◌<◌, ◌^◌, ℕ, false, min, IfOk};
+ghost use Rattle.std.specs.Prelude.{map as mapped};
 ghost use Rattle.sqlite.specs.Held.{state};
 ghost use Rattle.dr_site.specs.Parts.{Part};
 ghost use Rattle.dr_ledger.specs.Replies.{Reads, entry_of};
-ghost use Rattle.dr_ledger_history.specs.Lines.{line_of};
-ghost use Rattle.dr_ledger_views.specs.Numbers.{AreBehind, counted, lines_within};
-ghost use Rattle.dr_store_schema.specs.Books.{lines_of};
+ghost use Rattle.dr_ledger_history.specs.Lines.{line_of, lines_of};
+ghost use Rattle.dr_ledger_views.specs.Numbers.{counted, last_of, lines_within};
+ghost use Rattle.dr_store_past.specs.Lines.{past_in};
+ghost use Rattle.dr_store_schema.specs.Books.{lines_of as own_lines};
 ghost use Rattle.dr_store_lists.specs.Lists.{IsJournal};
 ghost use Rattle.dr_store_audit.specs.Goals.{AreByLine};
 ghost use Rattle.dr_store_audit.specs.Journal.{lines_told};
 ghost use Rattle.dr_store_calls.specs.Calling.{Looked};
 ghost use Rattle.dr_store_views.specs.Spans.{AreNotesWithin, numbered_of};
+ghost use Rattle.dr_store.specs.Pasts.{AreBothWithin};
 
+use crate::past::{tell_all_before, tell_before};
 use dr_base::{Seq, Text};
 use dr_ledger::{Entry, LedgerFault};
 use dr_ledger_history::{JournalLine, entries_of};
@@ -19,6 +24,7 @@ use dr_ledger_views::last_behind;
 use dr_store_audit::goals::are_by_line;
 use dr_store_audit::lines::line_for;
 use dr_store_lists::{JournalRow, all_notes, all_targets};
+use dr_store_past::LedgerPast;
 use dr_store_views::{goals_behind, notes_behind};
 use sqlite::{Alter, Connection};
 use std::alloc::{AllocError, Global};
@@ -63,7 +69,7 @@ fn tell_notes<S: Alter>(
 ) -> Result<Seq<JournalLine>, LedgerFault>
     ensures looked { (n : ℕ) (part : Part)
         → Looked n part result (state S.Store conn.old) (state S.Store conn.new)
-        (λ base all. IsJournal base notes.now → mapped line_of all ≡ lines_of base) }
+        (λ base all. IsJournal base notes.now → mapped line_of all ≡ own_lines base) }
     ensures idle { conn.old.in_transaction ≡ false → conn.new.in_transaction ≡ false }
 {
     match all_targets(conn, alloc) {
@@ -72,14 +78,14 @@ fn tell_notes<S: Alter>(
     }
 }
 
-/// The lines of the journal, in order.
-pub fn tell_journal<S: Alter>(
+/// The lines of the tables' journal, in order.
+fn tell_journal<S: Alter>(
     conn: &mut Connection<S>,
     alloc: Global,
 ) -> Result<Seq<JournalLine>, LedgerFault>
     ensures looked { (n : ℕ) (part : Part)
         → Looked n part result (state S.Store conn.old) (state S.Store conn.new)
-        (λ base all. mapped line_of all ≡ lines_of base) }
+        (λ base all. mapped line_of all ≡ own_lines base) }
     ensures idle { conn.old.in_transaction ≡ false → conn.new.in_transaction ≡ false }
 {
     match all_notes(conn, alloc) {
@@ -132,22 +138,60 @@ fn tell_within<S: Alter>(
     }
 }
 
-/// The lines of the journal behind a number, in order, so many at most.
+/// How many numbers lie behind the one and up to the other: so many at most.
+fn room(after: u64, last: u64, limit: u32) -> u32
+    ensures { result ≡ min (last - after) limit }
+{
+    last.saturating_sub(after).min(u64::from(limit)) as u32
+}
+
+/// The lines of the journal behind a number, in order, so many at most: those of the past, and then
+/// those of the tables.
 ///
-/// Errors: those of `tell_within`.
-pub fn tell_behind<S: Alter>(
+/// Errors: those of `tell_within` and of the past.
+pub fn tell_behind<S: Alter, P: LedgerPast>(
     conn: &mut Connection<S>,
+    past: &mut P,
     alloc: Global,
     after: u64,
     limit: u32,
 ) -> Result<Seq<JournalLine>, LedgerFault>
     ensures looked { (n : ℕ) (part : Part)
         → Looked n part result (state S.Store conn.old) (state S.Store conn.new)
-        (λ base all. AreBehind after limit (numbered_of base) (mapped line_of all)) }
+        (λ base all. P.LedgerPast.is_clean past.new
+        → AreBothWithin (past_in P.LedgerPast.all_lines (P.LedgerPast.reach past.old))
+        (P.LedgerPast.reach past.old).count after (last_of after limit) base (lines_of all)) }
+    ensures reach { P.LedgerPast.reach past.new ≡ P.LedgerPast.reach past.old }
+    ensures clean { P.LedgerPast.is_clean past.new → P.LedgerPast.is_clean past.old }
     ensures idle { conn.old.in_transaction ≡ false → conn.new.in_transaction ≡ false }
 {
     let last = last_behind(after, limit);
-    tell_within(conn, alloc, after, last)
+    let from = after.max(past.seal().count);
+    match tell_within(conn, alloc, from, last) {
+        Ok(own) => tell_before(past, after, room(after, last, limit), own),
+        Err(fault) => Err(fault),
+    }
+}
+
+/// The whole journal, in order: the lines of the past, and then those of the tables.
+pub fn tell_whole<S: Alter, P: LedgerPast>(
+    conn: &mut Connection<S>,
+    past: &mut P,
+    alloc: Global,
+) -> Result<Seq<JournalLine>, LedgerFault>
+    ensures looked { (n : ℕ) (part : Part)
+        → Looked n part result (state S.Store conn.old) (state S.Store conn.new)
+        (λ base all. P.LedgerPast.is_clean past.new
+        → lines_of all
+        ≡ past_in P.LedgerPast.all_lines (P.LedgerPast.reach past.old) ++ own_lines base) }
+    ensures reach { P.LedgerPast.reach past.new ≡ P.LedgerPast.reach past.old }
+    ensures clean { P.LedgerPast.is_clean past.new → P.LedgerPast.is_clean past.old }
+    ensures idle { conn.old.in_transaction ≡ false → conn.new.in_transaction ≡ false }
+{
+    match tell_journal(conn, alloc) {
+        Ok(own) => tell_all_before(past, own),
+        Err(fault) => Err(fault),
+    }
 }
 
 /// What is shown of these lines.
@@ -158,17 +202,22 @@ fn shown(alloc: Global, lines: &[JournalLine]) -> Result<Seq<Entry>, LedgerFault
     Ok(all)
 }
 
-/// The journal as it is shown, in order.
-pub fn list_lines<S: Alter>(
+/// The whole journal as it is shown, in order.
+pub fn list_lines<S: Alter, P: LedgerPast>(
     conn: &mut Connection<S>,
+    past: &mut P,
     alloc: Global,
 ) -> Result<Seq<Entry>, LedgerFault>
     ensures looked { (n : ℕ) (part : Part)
-        → Looked n part result (state S.Store conn.old) (state S.Store conn.new) (λ base all.
-        all ≡ mapped entry_of (lines_of base)) }
+        → Looked n part result (state S.Store conn.old) (state S.Store conn.new)
+        (λ base all. P.LedgerPast.is_clean past.new
+        → all ≡ mapped entry_of
+        (past_in P.LedgerPast.all_lines (P.LedgerPast.reach past.old) ++ own_lines base)) }
+    ensures reach { P.LedgerPast.reach past.new ≡ P.LedgerPast.reach past.old }
+    ensures clean { P.LedgerPast.is_clean past.new → P.LedgerPast.is_clean past.old }
     ensures idle { conn.old.in_transaction ≡ false → conn.new.in_transaction ≡ false }
 {
-    match tell_journal(conn, alloc) {
+    match tell_whole(conn, past, alloc) {
         Ok(lines) => shown(alloc, lines.as_slice()),
         Err(fault) => Err(fault),
     }

@@ -17,9 +17,11 @@ use Rattle.sqlite_trees.specs.Objects.{catalog_tree}
 use Rattle.sqlite_trees.specs.View.{doubt}
 use Rattle.sqlite_wal.specs.Recovery.{Image}
 use Rattle.dr_site.specs.Parts.{Part}
-use Rattle.dr_ledger.specs.Books.{empty_book}
+use Rattle.dr_ledger.specs.Books.{Line, empty_book}
 use Rattle.dr_store_schema.specs.Books.{book_of}
 use Rattle.dr_store_schema.specs.Tables.{tables}
+use Rattle.dr_store_calls.specs.Calling.{IsLedgerOf}
+use Rattle.dr_store.proofs.Wholes.{no_past_of}
 use Rattle.dr_store_audit.specs.Older.{IsOlder}
 use Rattle.dr_store_open.specs.declared.fault.OpeningFault.{OpeningFault}
 use Rattle.dr_store_open.specs.Opening.{HasLedgerOf, HasNewLedger, IsBlank, StaysAsFound}
@@ -58,7 +60,7 @@ stopped_ledgers_stand before after part call n live is_open has stopped found is
           let it = made.0.1 in
           let schema : found.schema ≡ tables =
           one_schema found tables found.trees (λ i. found.trees) is it.whole.sound in
-          (made.0.0, inr (kept_is_found made.0.0 (site_by part call) found schema it.ledger, made.1))
+          (made.0.0, inr (kept_is_found made.0.0 (site_by part call) found schema (subst (λ (past : List Line). IsLedgerOf past made.0.0 (site_by part call) found.trees) (no_past_of found.trees) it.ledger), made.1))
           )
     ])
 

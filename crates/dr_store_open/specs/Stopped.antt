@@ -1,5 +1,6 @@
--- A ledger whose call was stopped: what a crash leaves of it, and what is found there.
-use Rattle.std.specs.Prelude.{◌≡◌, ◌⊎◌, ℕ, IsTrue, Ok, Result}
+-- A ledger whose call was stopped: what a crash leaves of it, and what is found there. It seals no
+-- line, so that its tables' own book is the whole one.
+use Rattle.std.specs.Prelude.{◌≡◌, ◌⊎◌, ℕ, [], IsTrue, Ok, Result}
 use Rattle.sqlite.specs.Effect.{Database, IsDatabase}
 use Rattle.sqlite.specs.Files.{HoldsDatabase, file_state}
 use Rattle.sqlite.specs.Held.{AreDatabases, Held}
@@ -16,12 +17,11 @@ use Rattle.dr_ledger.specs.declared.item.Arrived.{Arrived}
 use Rattle.dr_ledger.specs.declared.item.Instance.{Instance}
 use Rattle.dr_ledger.specs.declared.item.Outcome.{Outcome}
 use Rattle.dr_ledger.specs.Replies.{Drops, Forgets, Requeues, Settles}
-use Rattle.dr_store_schema.specs.Books.{book_of}
 use Rattle.dr_store_schema.specs.Tables.{tables}
-use Rattle.dr_store_calls.specs.Adoptions.{IsAdopted}
 use Rattle.dr_store_calls.specs.Calling.{IsSafe}
 use Rattle.dr_store_calls.specs.Knowing.{IsAccepted}
-use Rattle.dr_store.specs.Surviving.{MakesLedger, Whatever, Wrote}
+use Rattle.dr_store.specs.Pasts.{whole_book}
+use Rattle.dr_store.specs.Surviving.{AdoptsWhole, MakesLedger, Whatever, Wrote}
 use Rattle.dr_store_open.specs.Opening.{HasLedgerOf}
 
 -- ---- the call
@@ -38,13 +38,16 @@ pub data WritingCall : Type 0 where
 -- what it makes of the tables of a ledger of this site, where it is accepted
 abbrev pub makes_by : Part → WritingCall → Trees → Trees → Type 0
 makes_by part (Arrive caller item) base db =
-    IsAccepted part caller item (book_of base) (book_of db)
+    IsAccepted part caller item (whole_book [] base) (whole_book [] db)
 makes_by part (Settle uid dest outcome now) base db =
-    Settles uid dest outcome now (book_of base) (Ok tt) (book_of db)
-makes_by part (Requeue uid dest) base db = Requeues uid dest (book_of base) (Ok tt) (book_of db)
-makes_by part (GiveUp uid dest now) base db = Drops uid dest now (book_of base) (Ok tt) (book_of db)
-makes_by part (Forget uid) base db = Forgets uid (book_of base) (Ok tt) (book_of db)
-makes_by part (Adopt next) base db = IsAdopted next base db
+    Settles uid dest outcome now (whole_book [] base) (Ok tt) (whole_book [] db)
+makes_by part (Requeue uid dest) base db =
+    Requeues uid dest (whole_book [] base) (Ok tt) (whole_book [] db)
+makes_by part (GiveUp uid dest now) base db =
+    Drops uid dest now (whole_book [] base) (Ok tt) (whole_book [] db)
+makes_by part (Forget uid) base db =
+    Forgets uid (whole_book [] base) (Ok tt) (whole_book [] db)
+makes_by part (Adopt next) base db = AdoptsWhole [] next base db
 
 -- whose ledger it makes of a ledger of this site
 abbrev pub site_by : Part → WritingCall → Part
@@ -62,7 +65,7 @@ IsStopped part call before after =
     (db : Trees)
     → after.may_leave db
     → ∥ (db ≡ before.committed.trees)
-    ⊎ MakesLedger (site_by part call) (makes_by part call) before.committed.trees db ∥₁
+    ⊎ MakesLedger [] (site_by part call) (makes_by part call) before.committed.trees db ∥₁
 
 -- So says the clause of each call of a ledger that writes, whatever it answers.
 pub record CallsAreStopped (before after : State) : Type 0 where
@@ -70,34 +73,38 @@ pub record CallsAreStopped (before after : State) : Type 0 where
       (result : Result Arrived LedgerFault)
       → HasCleanDisk after → IsSafe before
       → Wrote result before after Whatever
-      (MakesLedger part (λ base db. IsAccepted part caller item (book_of base) (book_of db)))
+      (MakesLedger [] part
+      (λ base db. IsAccepted part caller item (whole_book [] base) (whole_book [] db)))
       → IsStopped part (Arrive caller item) before after
   pub settling : (part : Part) (uid dest : Text) (outcome : Outcome) (now : ℕ)
       (result : Result (Unit {0}) LedgerFault)
       → HasCleanDisk after → IsSafe before
       → Wrote result before after Whatever
-      (MakesLedger part
-      (λ base db. Settles uid dest outcome now (book_of base) (Ok tt) (book_of db)))
+      (MakesLedger [] part
+      (λ base db. Settles uid dest outcome now (whole_book [] base) (Ok tt) (whole_book [] db)))
       → IsStopped part (Settle uid dest outcome now) before after
   pub requeuing : (part : Part) (uid dest : Text) (result : Result (Unit {0}) LedgerFault)
       → HasCleanDisk after → IsSafe before
       → Wrote result before after Whatever
-      (MakesLedger part (λ base db. Requeues uid dest (book_of base) (Ok tt) (book_of db)))
+      (MakesLedger [] part
+      (λ base db. Requeues uid dest (whole_book [] base) (Ok tt) (whole_book [] db)))
       → IsStopped part (Requeue uid dest) before after
   pub dropping : (part : Part) (uid dest : Text) (now : ℕ)
       (result : Result (Unit {0}) LedgerFault)
       → HasCleanDisk after → IsSafe before
       → Wrote result before after Whatever
-      (MakesLedger part (λ base db. Drops uid dest now (book_of base) (Ok tt) (book_of db)))
+      (MakesLedger [] part
+      (λ base db. Drops uid dest now (whole_book [] base) (Ok tt) (whole_book [] db)))
       → IsStopped part (GiveUp uid dest now) before after
   pub forgetting : (part : Part) (uid : Text) (result : Result (Unit {0}) LedgerFault)
       → HasCleanDisk after → IsSafe before
       → Wrote result before after Whatever
-      (MakesLedger part (λ base db. Forgets uid (book_of base) (Ok tt) (book_of db)))
+      (MakesLedger [] part
+      (λ base db. Forgets uid (whole_book [] base) (Ok tt) (whole_book [] db)))
       → IsStopped part (Forget uid) before after
   pub adoption : (part next : Part) (result : Result (Unit {0}) LedgerFault)
       → HasCleanDisk after → IsSafe before
-      → Wrote result before after Whatever (MakesLedger next (IsAdopted next))
+      → Wrote result before after Whatever (MakesLedger [] next (AdoptsWhole [] next))
       → IsStopped part (Adopt next) before after
 
 -- ---- what is found

@@ -21,6 +21,7 @@ use dr_ledger::LedgerFault;
 use dr_site::Site;
 use dr_store::SqlLedger;
 use dr_store_data::DataFile;
+use dr_store_past::LedgerPast;
 use dr_store_reads::fault_of;
 use dr_store_shelf::Shelf;
 use sqlite::{Connection, FileFrom, FileStore, Files, Options, Start};
@@ -105,8 +106,8 @@ pub fn open_path<T: Start, F: DataFile>(
 /// Ends a ledger, whatever it answers, and gives its two files back: what was committed is in them.
 ///
 /// Errors: Store, Memory.
-pub fn close_files<D: Disk + Drop, B: Shelf + Drop>(
-    ledger: SqlLedger<FileStore<D>, B>,
+pub fn close_files<D: Disk + Drop, B: Shelf + Drop, P: LedgerPast + Drop>(
+    ledger: SqlLedger<FileStore<D>, B, P>,
 ) -> Result<Files<D>, LedgerFault>
     ensures copied { IfOk result (λ files. AreClean D.Disk files.log files.db
         → IsCopied ledger.conn files) }

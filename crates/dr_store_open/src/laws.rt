@@ -19,6 +19,7 @@ ghost use Rattle.dr_store_open.specs.Stopped.{CallsAreStopped, StoppedLedgersAre
 ghost use Rattle.dr_store_open.specs.Stopped.{StoppedLedgersStand};
 
 use dr_store::SqlLedger;
+use dr_store_past::NoPast;
 use dr_store_shelf::Shelf;
 use sqlite::{Alter, Connection, FileStore};
 use sqlite_disk::Disk;
@@ -144,7 +145,7 @@ pub fn what_was_found_stays<S: Alter>(before: &Connection<S>, after: &Connection
 
 /// While the medium answers rightly and the store is open, the file of a ledger has a ledger of its
 /// site: also after each of its calls, whatever that answered.
-pub fn a_ledger_has_its_file<S: Alter, B: Shelf>(ledger: &SqlLedger<S, B>)
+pub fn a_ledger_has_its_file<S: Alter, B: Shelf>(ledger: &SqlLedger<S, B, NoPast>)
     ensures { B.Shelf.is_clean ledger.now.shelf
         → IsSafe (state S.Store ledger.now.conn)
         → ∥ ((n : ℕ)

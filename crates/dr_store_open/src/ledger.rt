@@ -15,19 +15,21 @@ use crate::opening::on;
 use dr_site::Site;
 use dr_store::SqlLedger;
 use dr_store_data::{DataFile, LedgerShelf};
+use dr_store_past::NoPast;
 use sqlite::{Alter, Connection};
 use sqlite_disk::Disk;
 use std::alloc::Global;
 
 /// The ledger of this site, over a connection to its tables and the shelf of their cells, as they
-/// were opened. The moment that it was told (milliseconds since 1970) is `moment`.
+/// were opened. All its lines are in the tables. The moment that it was told (milliseconds since
+/// 1970) is `moment`.
 pub fn ledger_of<S: Alter, D: Disk>(
     alloc: Global,
     conn: Connection<S>,
     opened: OpenedLedger<D>,
     site: Site,
     moment: Option<u64>,
-) -> SqlLedger<S, LedgerShelf<D>>
+) -> SqlLedger<S, LedgerShelf<D>, NoPast>
     requires idle { conn.in_transaction ≡ false }
     requires kept { HasCleanDisk (state S.Store conn)
         → IsKept [] opened.next site (state S.Store conn) }
@@ -40,7 +42,7 @@ pub fn ledger_of<S: Alter, D: Disk>(
     ensures moment { result.moment ≡ moment }
 {
     let OpenedLedger { shelf, next } = opened;
-    SqlLedger::of(alloc, conn, shelf, site, next, moment)
+    SqlLedger::of(alloc, conn, shelf, NoPast::new(alloc), site, next, moment)
 }
 
 /// The ledger of a site over a connection to a file: its tables are made where the file has none, a
@@ -56,7 +58,7 @@ pub fn ledger_on<S: Alter + Drop, F: DataFile>(
     keeping: Keeping,
     site: Site,
     moment: Option<u64>,
-) -> Result<SqlLedger<S, LedgerShelf<F::Disk>>, OpeningFault>
+) -> Result<SqlLedger<S, LedgerShelf<F::Disk>, NoPast>, OpeningFault>
     requires { conn.in_transaction ≡ false }
     ensures of { IfOk result (λ l. l.site ≡ site) }
     ensures moment { IfOk result (λ l. l.moment ≡ moment) }

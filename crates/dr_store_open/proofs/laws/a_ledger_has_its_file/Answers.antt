@@ -9,7 +9,7 @@ pub returns : goal.returns
 returns g c clean safe =
     let ledger = c.args.ledger.now in
     let s = state g.S.Store ledger.conn in
-    ∥∥₁_map (ledger.kept clean safe) (λ k. (
+    ∥∥₁_map (ledger.kept (clean, tt) safe) (λ k. (
       ledger.next,
       kept_is_found ledger.next ledger.site s.committed
           (ap (λ (d : Database). d.schema) (sym k.kept.ready.settled) ∙ k.kept.ready.ledger.schema)

@@ -16,4 +16,4 @@ returns-in-None-clause-reply g c is safe =
     let stood = c.first_queued.ensures.leaves.stood is safe in
     let same = c.in_ok-uid.ensures.leaves.same stood.1 stood.0 in
     let kept = subst (λ (found : Option Text). FindsUnreadable KeptAreThere was_of base found) c.in-None.is (c.in_ok-uid.ensures.reply stood.1 stood.0) in
-    reads_as c.first_queued.result (FindsUnreadable QueuedAreThere mid_of mid) (FindsUnreadable HasAll was_of base) (λ found queued. finds_all was_of base kept found (finds_before QueuedAreThere was_of mid_of base mid same found queued)) (c.first_queued.ensures.reply is safe)
+    reads_as c.first_queued.result (FindsUnreadable QueuedAreThere mid_of mid) (FindsUnreadable HasAll was_of base) (λ found queued. finds_all was_of base kept found (finds_before g.P.LedgerPast.all_lines QueuedAreThere (λ db bodies h. h) (λ db bodies h. h) was_of mid_of base mid same found queued)) (c.first_queued.ensures.reply is safe)

@@ -17,5 +17,5 @@ returns-clause-reply g c is safe =
     let stood = c.first_of_kept.ensures.leaves.stood is safe in
     let same = c.in_ok-kept.ensures.same stood in
     let are = subst (λ (b : Book). AreKept b c.in_ok-kept.kept) (sym same.0) (c.in_ok-kept.ensures.reply stood) in
-    reads_as c.first_of_kept.result (FindsUnreadable KeptAreThere mid_of mid) (FindsUnreadable KeptAreThere was_of base) (finds_before KeptAreThere was_of mid_of base mid same)
+    reads_as c.first_of_kept.result (FindsUnreadable KeptAreThere mid_of mid) (FindsUnreadable KeptAreThere was_of base) (finds_before g.P.LedgerPast.all_lines KeptAreThere (λ db bodies h. h) (λ db bodies h. h) was_of mid_of base mid same)
     (c.first_of_kept.ensures.reply is safe (subst (AreKept (book_of mid)) (sym c.as_slice.ensures) are))

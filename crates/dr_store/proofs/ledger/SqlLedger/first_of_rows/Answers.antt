@@ -10,7 +10,7 @@ use Rattle.dr_store.proofs.Unreadables.{RowHasIts, all_rows, leaves_nothing, lea
 use Rattle.dr_store.proofs.ledger.SqlLedger.first_of_rows.Goals as goal
 
 pub loop-row-init : goal.loop-row-init
-loop-row-init g c = (leaves_nothing (tt {0}) (g.B.Shelf.read_of c.args.self.now.shelf) (g.B.Shelf.is_clean c.args.self.now.shelf) (state g.S.Store c.args.self.now.conn) c.args.self.now.failures, refl, λ is safe k d low. absurd (omega (arith, low)))
+loop-row-init g c = (leaves_nothing g.P.LedgerPast.all_lines (tt {0}) (g.B.Shelf.read_of c.args.self.now.shelf) (g.B.Shelf.is_clean c.args.self.now.shelf × g.P.LedgerPast.is_clean c.args.self.now.past) (state g.S.Store c.args.self.now.conn) c.args.self.now.failures, refl, λ is safe k d low. absurd (omega (arith, low)))
 
 pub loop-row-preserved : goal.loop-row-preserved
 loop-row-preserved g c =
@@ -26,7 +26,7 @@ loop-row-preserved g c =
       λ is safe.
           let stood = leaves.stood is safe in
           let same = c.loop-row.invariant.0.same stood.1 stood.0 in
-          let its = queued_before was_of mid_of base mid same row told (c.in_ok-has_what_it_sends.ensures.reply is safe) in
+          let its = queued_before g.P.LedgerPast.all_lines was_of mid_of base mid same row told (c.in_ok-has_what_it_sends.ensures.reply is safe) in
           All-more (RowHasIts was_of base) c.args.rows.now c.loop-row.row-index row c.loop-row-test.true (c.loop-row.invariant.2 stood.1 stood.0)
           (subst (RowHasIts was_of base) c.row-item.is (row_told was_of base row told c.if-not-branch.false its)),
     )
@@ -42,7 +42,7 @@ returns-then-not-branch-clause-reply g c is safe are =
     let told = c.in_ok-has_what_it_sends.field-0 in
     let stood = c.in_ok-has_what_it_sends.ensures.leaves.stood is safe in
     let same = c.loop-row.invariant.0.same stood.1 stood.0 in
-    let its = queued_before was_of mid_of base mid same row told (c.in_ok-has_what_it_sends.ensures.reply is safe) in
+    let its = queued_before g.P.LedgerPast.all_lines was_of mid_of base mid same row told (c.in_ok-has_what_it_sends.ensures.reply is safe) in
     subst (λ (uid : Text). FindsUnreadable QueuedAreThere was_of base (Some uid)) (sym c.in_ok-clone.ensures)
     (rows_want was_of base i row told (subst (λ (rs : List (Pair × Progress)). i < length rs) are c.loop-row-test.true) (ap (λ (rs : List (Pair × Progress)). get_or rs i row) (sym are) ∙ sym c.row-item.is) c.if-not-branch.true its)
 

@@ -10,6 +10,6 @@ invariant-loop-row g l =
     let old = state g.S.Store l.fn.self.conn in
     let now = state g.S.Store l.self.conn in
     let was_of = g.B.Shelf.read_of l.fn.self.shelf in
-    LeavesAsRead (Ok (tt {0})) was_of (g.B.Shelf.read_of l.self.shelf) (g.B.Shelf.is_clean l.fn.self.shelf) (g.B.Shelf.is_clean l.self.shelf) old now l.fn.self.failures l.self.failures
+    LeavesAsRead g.P.LedgerPast.all_lines (Ok (tt {0})) was_of (g.B.Shelf.read_of l.self.shelf) (g.B.Shelf.is_clean l.fn.self.shelf × g.P.LedgerPast.is_clean l.fn.self.past) (g.B.Shelf.is_clean l.self.shelf × g.P.LedgerPast.is_clean l.self.past) old now l.fn.self.failures l.self.failures
     × (l.self.site ≡ l.fn.self.site)
-    × (g.B.Shelf.is_clean l.self.shelf → IsSafe now → All (RowHasIts was_of old.committed.trees) (take l.row-index l.rows))
+    × (g.B.Shelf.is_clean l.self.shelf × g.P.LedgerPast.is_clean l.self.past → IsSafe now → All (RowHasIts was_of old.committed.trees) (take l.row-index l.rows))

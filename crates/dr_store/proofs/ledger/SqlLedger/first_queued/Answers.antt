@@ -17,5 +17,5 @@ returns-clause-reply g c is safe =
     let stood = c.first_of_rows.ensures.leaves.stood is safe in
     let same = c.in_ok-rows.ensures.same stood in
     let rows = c.as_slice.ensures ∙ c.in_ok-rows.ensures.reply stood ∙ ap (λ (b : Book). map.entries b.rows) (sym same.0) in
-    reads_as c.first_of_rows.result (FindsUnreadable QueuedAreThere mid_of mid) (FindsUnreadable QueuedAreThere was_of base) (finds_before QueuedAreThere was_of mid_of base mid same)
+    reads_as c.first_of_rows.result (FindsUnreadable QueuedAreThere mid_of mid) (FindsUnreadable QueuedAreThere was_of base) (finds_before g.P.LedgerPast.all_lines QueuedAreThere (λ db bodies h. h) (λ db bodies h. h) was_of mid_of base mid same)
     (c.first_of_rows.ensures.reply is safe rows)

@@ -46,10 +46,10 @@ returns g c =
     let answer = c.first_unfit-answer.result in
     let P : Text → Type 0 = λ name. UnfitsOf Rows Keys plan name r answer in
     let told : UnfitsOf Rows Keys plan part.name r answer = subst P c.name.ensures c.first_unfit-answer.ensures in
-    let lasts = looked_lasting n part r old new Shows (g.B.Shelf.is_clean c.args.self.now.shelf) kept looked in
+    let lasts = looked_lasting n part r old new Shows (g.B.Shelf.is_clean c.args.self.now.shelf × g.P.LedgerPast.is_clean c.args.self.now.past) kept looked in
     record {
       reply = λ safe. answers Rows Keys plan part.name old.committed.trees r answer told (looked_reads n part r old new Shows (kept safe.1) looked (λ l. both (by_code (coded_list (coded× coded_pair coded_progress)) _ _) (by_code (coded_list (coded× coded_text coded_key)) _ _)) safe.0);
-      same = λ safe. looked_books n part r old new Shows (kept safe.1) looked (g.B.Shelf.read_of c.args.self.now.shelf) safe.0;
+      same = λ safe. looked_books n part r old new Shows (kept safe.1) looked g.P.LedgerPast.all_lines (g.B.Shelf.read_of c.args.self.now.shelf) safe.0;
       counts = c.counted-self.ensures.counts;
       armed = refl;
       stood = λ safe. (looked_safe n part r old new Shows (kept safe.1) looked safe.0, safe.1);

@@ -48,10 +48,10 @@ returns g c =
     let kept = c.args.self.now.kept in
     record {
       reply = λ safe. looked_reads n part r old new Shows (kept safe.1) looked (λ all. by_code (coded_list (coded× coded_pair coded_progress)) _ _) safe.0;
-      same = λ safe. looked_books n part r old new Shows (kept safe.1) looked (g.B.Shelf.read_of c.args.self.now.shelf) safe.0;
+      same = λ safe. looked_books n part r old new Shows (kept safe.1) looked g.P.LedgerPast.all_lines (g.B.Shelf.read_of c.args.self.now.shelf) safe.0;
       counts = c.counted-self.ensures.counts;
       armed = refl;
       stood = λ safe. (looked_safe n part r old new Shows (kept safe.1) looked safe.0, safe.1);
-      lasts = looked_lasting n part r old new Shows (g.B.Shelf.is_clean c.args.self.now.shelf) kept looked;
+      lasts = looked_lasting n part r old new Shows (g.B.Shelf.is_clean c.args.self.now.shelf × g.P.LedgerPast.is_clean c.args.self.now.past) kept looked;
       site = refl;
     }
