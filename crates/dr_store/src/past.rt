@@ -85,7 +85,7 @@ fn join(
     first: Seq<JournalLine>,
     more: Seq<JournalLine>,
 ) -> Result<Seq<JournalLine>, LedgerFault>
-    ensures all { Reads result (λ all. all ≡ first ++ more) }
+    ensures { Reads result (λ all. all ≡ first ++ more) }
 {
     let all = append(first.into_vec(), more.into_vec())?;
     Ok(all)
