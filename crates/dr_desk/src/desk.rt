@@ -170,6 +170,10 @@ impl<L: Views> Views for Desk<L> {
         self.ledger.count_kept()
     }
 
+    fn line_count(&mut self) -> Result<u64, LedgerFault> {
+        self.ledger.line_count()
+    }
+
     fn count_rows(&mut self, dest: &Text, stage: Stage) -> Result<u64, LedgerFault> {
         self.ledger.count_rows(dest, stage)
     }

@@ -1,7 +1,8 @@
 //! The ledger of one node in memory.
 ghost use Rattle.std.specs.Prelude.{◌≡◌, ◌↔◌, ◌≤◌, ◌-◌, ◌^◌, IsTrue, IfOk, OnOk, ◌++◌, None, Ok};
 ghost use Rattle.std.specs.Prelude.{Some};
-ghost use Rattle.std.specs.Prelude.{T, drop, false, map as mapped, option_copied, take, true};
+ghost use Rattle.std.specs.Prelude.{T, drop, false, length, map as mapped, option_copied, take};
+ghost use Rattle.std.specs.Prelude.{true};
 ghost use Rattle.std.specs.BTreeMap.{IsOrdered};
 ghost use Rattle.std.specs.FinMap as map;
 ghost use Rattle.std.specs.FinMap.{is_sorted};
@@ -459,6 +460,13 @@ impl MemoryLedger {
         Ok(all)
     }
 
+    /// How many lines the journal has.
+    fn count_lines(&self) -> u64
+        ensures { result ≡ length self.now.parts.notes.items }
+    {
+        self.parts.notes.as_slice().len() as u64
+    }
+
     /// A page of the journal: the lines behind that number, so many at most.
     fn some_lines(&self, after: u64, limit: u32) -> Result<Seq<JournalLine>, LedgerFault>
         ensures { ShowsOrFails result (λ page.
@@ -730,6 +738,10 @@ impl Views for MemoryLedger {
 
     fn count_kept(&mut self) -> Result<u64, LedgerFault> {
         count_all_kept(self)
+    }
+
+    fn line_count(&mut self) -> Result<u64, LedgerFault> {
+        Ok(self.count_lines())
     }
 
     fn count_rows(&mut self, dest: &Text, stage: Stage) -> Result<u64, LedgerFault> {

@@ -261,6 +261,13 @@ impl<'a, L: Views, R: Clock> Views for Timed<'a, L, R> {
         answer
     }
 
+    fn line_count(&mut self) -> Result<u64, LedgerFault> {
+        let began = self.begin();
+        let answer = self.ledger.line_count();
+        self.end(began);
+        answer
+    }
+
     fn count_rows(&mut self, dest: &Text, stage: Stage) -> Result<u64, LedgerFault> {
         let began = self.begin();
         let answer = self.ledger.count_rows(dest, stage);

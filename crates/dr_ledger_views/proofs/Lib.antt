@@ -2,6 +2,7 @@ pub mod Asked
 pub mod Callers
 mod Figures
 mod Least
+mod LineFigures
 mod Pages
 mod Paged
 pub mod Numbered

@@ -1,5 +1,5 @@
 -- Lines that are counted, and those of them whose numbers lie in a span.
-use Rattle.std.proofs.Common.{◌≡◌, ℕ, zero, suc, ◌+◌, ◌-◌, ◌^◌, ◌<◌, ◌≤◌, min, Bool, true, false, ◌&&◌, cond, T, List, [], ◌∷◌, map as mapped, take, drop, refl, sym, ap, subst, ◌∙◌, arith, true≢false}
+use Rattle.std.proofs.Common.{◌≡◌, ℕ, zero, suc, ◌+◌, ◌-◌, ◌^◌, ◌<◌, ◌≤◌, min, Bool, true, false, ◌&&◌, cond, T, List, [], ◌∷◌, ◌++◌, length, map as mapped, take, drop, refl, sym, ap, subst, ◌∙◌, arith, true≢false}
 use Rattle.std.specs.declared.cmp.Ordering.{Ordering}
 use Rattle.std.specs.declared.cmp.Ordering.TheVariants.{Less, Equal, Greater}
 use Rattle.std.specs.Cmp.{ranks}
@@ -7,7 +7,7 @@ use Rattle.std.specs.FinMap.{is_sorted}
 use Rattle.std.specs.FinMap.Entries.{below_all}
 use Rattle.std.specs.Ordering.{MatchOrdering, is_gt, is_le, is_lt, nat_cmp}
 use Rattle.dr_ledger.specs.Books.{Line}
-use Rattle.dr_ledger_views.specs.Numbers.{HaveNumbers, counted, is_within, last_of, lines_within}
+use Rattle.dr_ledger_views.specs.Numbers.{AreBehind, HaveNumbers, counted, is_within, last_of, lines_within}
 
 -- ---- the order of numbers
 
@@ -109,8 +109,11 @@ rise : (n : ℕ) (lines : List Line) → T (is_sorted nat_cmp (counted n lines))
 rise n [] = tt
 rise n (line ∷ lines) = both_T (below_all nat_cmp (n + 1) (counted (n + 1) lines)) _ (above_all (n + 1) (n + 1) lines (omega arith)) (rise (n + 1) lines)
 
-pub are_numbered : (lines : List Line) → HaveNumbers lines (counted 0 lines)
-are_numbered lines = record { told = told 0 lines; rise = rise 0 lines }
+pub are_told : (lines : List Line) (all : List (ℕ × Line)) → HaveNumbers lines all → mapped (λ (e : ℕ × Line). e.1) all ≡ lines
+are_told lines all have = ap (mapped (λ (e : ℕ × Line). e.1)) have ∙ told 0 lines
+
+pub numbers_rise : (lines : List Line) (all : List (ℕ × Line)) → HaveNumbers lines all → T (is_sorted nat_cmp all)
+numbers_rise lines all have = let P : List (ℕ × Line) → Type 0 = λ es. T (is_sorted nat_cmp es) in subst P (sym have) (rise 0 lines)
 
 -- ---- a page of them
 
@@ -163,3 +166,55 @@ page_is after last lines = go (last - after) refl
     go : (n : ℕ) → last - after ≡ n → counted after (take n (drop after lines)) ≡ lines_within after last (counted 0 lines)
     go zero is = sym (none_within after last (counted 0 lines) (omega (arith, is)))
     go (suc n) is = lines_behind after last 0 after (suc n) lines (omega arith) (omega (arith, is))
+
+-- ---- pages in a row
+
+-- what stands behind a number is these lines, where they have the numbers that follow it
+pub are_next : (lines : List Line) (all : List (ℕ × Line)) (after limit : ℕ) (page : List Line) → HaveNumbers lines all → AreBehind after limit all page → page ≡ take (last_of after limit - after) (drop after lines)
+are_next lines all after limit page have behind =
+    let last = last_of after limit in
+    let here : List Line = take (last - after) (drop after lines) in
+    let same : counted after page ≡ counted after here = behind ∙ ap (lines_within after last) have ∙ sym (page_is after last lines) in
+    sym (told after page) ∙ ap (mapped (λ (e : ℕ × Line). e.1)) same ∙ told after here
+
+rejoined : (n : ℕ) (lines : List Line) → lines ≡ take n lines ++ drop (length (take n lines)) lines
+rejoined zero lines = refl
+rejoined (suc n) [] = refl
+rejoined (suc n) (line ∷ lines) = ap (λ ls. line ∷ ls) (rejoined n lines)
+
+none_of_none : (k : ℕ) (lines : List Line) → lines ≡ [] → drop k lines ≡ []
+none_of_none zero lines is = is
+none_of_none (suc k) [] is = refl
+none_of_none (suc k) (line ∷ lines) is = let none : suc (length lines) ≡ 0 = ap length is in absurd (omega (arith, none))
+
+further : (a m : ℕ) (lines : List Line) → drop m (drop a lines) ≡ drop (a + m) lines
+further zero m lines = let same : m ≡ 0 + m = omega arith in ap (λ (k : ℕ). drop k lines) same
+further (suc a) m [] = none_of_none m [] refl ∙ sym (none_of_none (suc a + m) [] refl)
+further (suc a) m (line ∷ lines) =
+    let same : suc (a + m) ≡ suc a + m = omega arith in
+    further a m lines ∙ ap (λ (k : ℕ). drop k (line ∷ lines)) same
+
+pub whole : (lines : List Line) (all : List (ℕ × Line)) (after limit : ℕ) (page : List Line) → HaveNumbers lines all → AreBehind after limit all page → drop after lines ≡ page ++ drop (after + length page) lines
+whole lines all after limit page have behind =
+    let n = last_of after limit - after in
+    let is : page ≡ take n (drop after lines) = are_next lines all after limit page have behind in
+    rejoined n (drop after lines)
+    ∙ ap (λ (ls : List Line). ls ++ drop (length ls) (drop after lines)) (sym is)
+    ∙ ap (λ (ls : List Line). page ++ ls) (further after (length page) lines)
+
+none_taken : (n : ℕ) (lines : List Line) → [] ≡ take (suc n) lines → lines ≡ []
+none_taken n [] is = refl
+none_taken n (line ∷ lines) is = let none : 0 ≡ suc (length (take n lines)) = ap length is in absurd (omega (arith, none))
+
+none_left : (a : ℕ) (lines : List Line) → length lines ≤ a → drop a lines ≡ []
+none_left zero [] le = refl
+none_left (suc a) [] le = refl
+none_left zero (line ∷ lines) le = absurd (omega (arith, le))
+none_left (suc a) (line ∷ lines) le = none_left a lines (omega (arith, le))
+
+pub end : (lines : List Line) (all : List (ℕ × Line)) (after limit : ℕ) → length lines < 2 ^ 63 → HaveNumbers lines all → AreBehind after (suc limit) all [] → drop after lines ≡ []
+end lines all after limit few have behind = go (last_of after (suc limit) - after) refl
+  where
+    go : (n : ℕ) → last_of after (suc limit) - after ≡ n → drop after lines ≡ []
+    go zero is = none_left after lines (omega (arith, is, few))
+    go (suc n) is = none_taken n (drop after lines) (are_next lines all after (suc limit) [] have behind ∙ ap (λ (k : ℕ). take k (drop after lines)) is)

@@ -1,14 +1,16 @@
 -- Lines of a journal by their numbers.
-use Rattle.std.specs.Prelude.{◌≡◌, ℕ, ◌+◌, ◌-◌, ◌^◌, min, Bool, ◌&&◌, T, List, [], ◌∷◌, filter}
-use Rattle.std.specs.Prelude.{map as mapped}
-use Rattle.std.specs.FinMap.{is_sorted}
+use Rattle.std.specs.Prelude.{◌≡◌, ℕ, ◌+◌, ◌-◌, ◌^◌, min, Bool, ◌&&◌, List, [], ◌∷◌, filter}
 use Rattle.std.specs.Ordering.{is_gt, is_le, nat_cmp}
 use Rattle.dr_ledger.specs.Books.{Line}
 
--- the lines of a journal, each with its number; the numbers rise
-pub record HaveNumbers (lines : List Line) (all : List (ℕ × Line)) : Type 0 where
-  pub told : mapped (λ (e : ℕ × Line). e.1) all ≡ lines
-  pub rise : T (is_sorted nat_cmp all)
+-- these lines with the numbers that follow that one
+abbrev pub counted : ℕ → List Line → List (ℕ × Line)
+counted after [] = []
+counted after (line ∷ lines) = (after + 1, line) ∷ counted (after + 1) lines
+
+-- the lines of a journal, each with its number: they count up from 1
+abbrev pub HaveNumbers : List Line → List (ℕ × Line) → Type 0
+HaveNumbers lines all = all ≡ counted 0 lines
 
 -- the number lies behind the one, and not behind the other
 abbrev pub is_within : ℕ → ℕ → ℕ → Bool
@@ -21,11 +23,6 @@ last_of after limit = min (after + limit) (2 ^ 63 - 1)
 -- those of the numbered lines whose numbers lie there
 abbrev pub lines_within : ℕ → ℕ → List (ℕ × Line) → List (ℕ × Line)
 lines_within after last all = filter (λ (e : ℕ × Line). is_within after last e.0) all
-
--- these lines with the numbers that follow that one
-abbrev pub counted : ℕ → List Line → List (ℕ × Line)
-counted after [] = []
-counted after (line ∷ lines) = (after + 1, line) ∷ counted (after + 1) lines
 
 -- The lines are those of the numbers behind that one, up to so many: each of its own number, and of
 -- the numbers between them none is missing.

@@ -4,6 +4,8 @@ ghost use Rattle.dr_ledger_views.specs.Laws.{EmptyPagesAreTheEnd, ViewFiguresAre
 ghost use Rattle.dr_ledger_views.specs.Laws.{FirstsAreDue};
 ghost use Rattle.dr_ledger_views.specs.Laws.{LeastIsOne, NobodyBringsNothing, NoneIsNeverDue};
 ghost use Rattle.dr_ledger_views.specs.Laws.{PagesAreTheWhole};
+ghost use Rattle.dr_ledger_views.specs.LineLaws.{EmptyLinePagesAreTheEnd, LineFiguresAreRight};
+ghost use Rattle.dr_ledger_views.specs.LineLaws.{LinePagesAreTheWhole, LinesRise};
 
 /// The counts of a destination add up to all of its rows.
 pub fn counts_add_up()
@@ -14,6 +16,13 @@ pub fn counts_add_up()
 pub fn pages_are_the_whole()
     ensures whole { PagesAreTheWhole }
     ensures end { EmptyPagesAreTheEnd }
+{}
+
+/// Pages of lines in a row are the whole journal, and end with an empty one.
+pub fn line_pages_are_the_whole()
+    ensures rise { LinesRise }
+    ensures whole { LinePagesAreTheWhole }
+    ensures end { EmptyLinePagesAreTheEnd }
 {}
 
 /// A row is due just from the first moment on.
@@ -37,4 +46,9 @@ pub fn callers_are_right()
 /// Figures of an example.
 pub fn figures_are_right()
     ensures { ViewFiguresAreRight }
+{}
+
+/// Figures of lines with their numbers.
+pub fn line_figures_are_right()
+    ensures { LineFiguresAreRight }
 {}

@@ -1,5 +1,5 @@
 //! What is asked of a ledger without a list of all that it has.
-ghost use Rattle.std.specs.Prelude.{◌≡◌, ℕ, List, map as mapped};
+ghost use Rattle.std.specs.Prelude.{◌≡◌, ℕ, List, length, map as mapped};
 ghost use Rattle.std.specs.FinMap as map;
 ghost use Rattle.std.specs.FinSet as set;
 ghost use Rattle.dr_ledger.specs.Replies.{Counts, LastsThrough, Reads};
@@ -39,6 +39,19 @@ pub trait Views: Moments {
     fn count_kept(&mut self) -> Result<u64, LedgerFault>
         ensures reply { Self.stands self.new
             → Reads result (λ n. n ≡ set.len (Self.book self.old).kept) }
+        ensures same { Self.stands self.new
+            → (Self.book self.new ≡ Self.book self.old)
+            × (Self.bodies self.new ≡ Self.bodies self.old) }
+        ensures counts { Counts result (Self.failed self.old) (Self.failed self.new) }
+        ensures armed { Self.armed self.new ≡ Self.armed self.old }
+        ensures stood { Self.stands self.new → Self.stands self.old }
+        ensures lasts { LastsThrough Self.trusts Self.stands self.old result self.new }
+        ensures site { Self.site self.new ≡ Self.site self.old };
+
+    /// How many lines its journal has, which is the number of the last one.
+    fn line_count(&mut self) -> Result<u64, LedgerFault>
+        ensures reply { Self.stands self.new
+            → Reads result (λ n. n ≡ length (Self.book self.old).lines) }
         ensures same { Self.stands self.new
             → (Self.book self.new ≡ Self.book self.old)
             × (Self.bodies self.new ≡ Self.bodies self.old) }

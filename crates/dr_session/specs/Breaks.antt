@@ -5,6 +5,7 @@ use Rattle.dr_ledger.specs.declared.content.NextRow.{NextRow}
 use Rattle.dr_ledger.specs.declared.content.NextRow.TheVariants.{Whole}
 use Rattle.dr_ledger.specs.declared.fault.LedgerFault.TheVariants as fault
 use Rattle.dr_ledger.specs.declared.item.Outcome.{Outcome}
+use Rattle.dr_ledger.specs.declared.item.Outcome.TheVariants.{Broken}
 use Rattle.dr_session.specs.declared.ends.Core.{Core}
 use Rattle.dr_session.specs.declared.ends.Effect.{Effect}
 use Rattle.dr_session.specs.declared.ends.Input.TheVariants.{Request}
@@ -13,8 +14,8 @@ use Rattle.dr_session.specs.declared.ends.Moment.{Moment}
 use Rattle.dr_session.specs.declared.ends.Told.{Told}
 use Rattle.dr_session.specs.declared.ends.Told.TheVariants.{Plain}
 use Rattle.dr_session.specs.Desks.{DeskCall, DeskAnswer, Settle, Next as NextFor, Arrival}
-use Rattle.dr_session.specs.Desks.{Upcoming, Settling}
-use Rattle.dr_session.specs.Reactions.{Reaction, pushes, quiet, settling, turn}
+use Rattle.dr_session.specs.Desks.{Upcoming, Settling, Due as DueFor, First}
+use Rattle.dr_session.specs.Reactions.{Reaction, pushes, quiet, refuses, settling, turn}
 use Rattle.dr_session.specs.Turns.{Ends, Asks, Fails}
 
 -- something is done on the link
@@ -106,3 +107,23 @@ PushesAreTold {S} step =
     → (t ≡ s)
     ⊎ (((row : NextRow) × (m : S) × step s (NextFor c.peer at.now) (Upcoming (Ok (Some row))) m)
     ⊎ ((answer : DeskAnswer) × IsUnread answer × step s (NextFor c.peer at.now) answer t))
+
+-- the same of the first row behind a rejection
+abbrev pub IsUnfound : DeskAnswer → Type 0
+IsUnfound (First (Ok row)) = ⊥
+IsUnfound (First (Err fault.Memory)) = Unit {0}
+IsUnfound (First (Err why)) = ⊥
+IsUnfound answer = Unit {0}
+
+-- Where a rejection is left on the way, nothing was asked, or the desk itself wanted memory: as it
+-- was asked for the first row, or as it was to settle that row. So neither that nothing is due, nor
+-- that the row no longer waits, nor that a store failed is hidden.
+abbrev pub RefusalsAreTold : {S : Type 0} → (S → DeskCall → DeskAnswer → S → Type 0) → Type 0
+RefusalsAreTold {S} step =
+    (at : Moment) (c : Core) (s t : S)
+    → Broke step (refuses at c) s t
+    → (t ≡ s)
+    ⊎ (((answer : DeskAnswer) × IsUnfound answer × step s (DueFor c.peer at.now) answer t)
+    ⊎ ((uid : Text) × (m : S) × step s (DueFor c.peer at.now) (First (Ok (Some uid))) m
+    × ((answer : DeskAnswer) × IsWanting answer
+    × step m (Settle uid c.peer Broken at.now) answer t)))

@@ -1,7 +1,7 @@
 -- Worked figures of turns: each row of the state table (PS3.8 section 9.2.3) that a session can
 -- meet, whatever the end is like.
 use Rattle.std.specs.Prelude.{◌≡◌, ℕ, Bool, true, false, List, [], ◌∷◌, map, Option, Some, None, Ok}
-use Rattle.std.specs.Prelude.{Err}
+use Rattle.std.specs.Prelude.{Err, option_map}
 use Rattle.dr_ulstate.specs.declared.table.State.{State}
 use Rattle.dr_ulstate.specs.declared.table.State.TheVariants.{Sta2, Sta5, Sta6, Sta7, Sta11, Sta13}
 use Rattle.dr_ulstate.specs.Table.{state_number}
@@ -35,11 +35,13 @@ use Rattle.dr_session.specs.declared.ends.Input.TheVariants as input
 use Rattle.dr_session.specs.declared.ends.LinkAction.{LinkAction}
 use Rattle.dr_session.specs.declared.ends.LinkAction.TheVariants.{Write, Close}
 use Rattle.dr_session.specs.declared.ends.Moment.{Moment}
+use Rattle.dr_session.specs.declared.ends.Over.{Over}
+use Rattle.dr_session.specs.declared.ends.Over.TheVariants as ends_as
 use Rattle.dr_session.specs.declared.ends.Pending.{Pending}
 use Rattle.dr_session.specs.declared.ends.Told.{Told}
 use Rattle.dr_session.specs.declared.ends.Told.TheVariants as told
 use Rattle.dr_session.specs.Desks.{DeskAnswer, DeskCall, Next, Due, Settle, Settling}
-use Rattle.dr_session.specs.Ends.{unmarked, ended_by, idle_in}
+use Rattle.dr_session.specs.Ends.{unmarked, over_in, idle_in}
 use Rattle.dr_session.specs.Reactions.{Reaction, due, turn, rj, write}
 use Rattle.dr_session.specs.Turns.{Ends, Asks, Fails}
 
@@ -81,33 +83,45 @@ closing = acceptor Sta13 ∷ requestor Sta13 ∷ []
 
 -- ---- what a turn shows
 
--- without a call: the number of the state that follows, what is done on the link, and how the
--- association ended so far
+-- without a call: the number of the state that follows, what is done on the link, how the end is
+-- over if it is gone then, and since when it awaits an answer
 pub record Shown : Type 0 where
   pub state : ℕ
   pub acts : List LinkAction
-  pub ended : Ended
+  pub so_far : Option Over
+  pub awaits : Option ℕ
 
 abbrev pub shows : Reaction → Option Shown
 shows (Ends x) = Some
     (record {
       state = state_number (state_of x.core.phase);
       acts = x.acts;
-      ended = ended_by x.core.marks;
+      so_far = over_in true x.core.marks;
+      awaits = x.core.awaits;
     })
 shows (Asks call follow) = None
 shows Fails = None
+
+abbrev pub shown : ℕ → List LinkAction → Over → Option ℕ → Option Shown
+shown state acts over awaits =
+    Some (record { state = state; acts = acts; so_far = Some over; awaits = awaits })
+
+-- the end that follows, without a call
+abbrev pub end_after : Reaction → Option Core
+end_after (Ends x) = Some x.core
+end_after (Asks call follow) = None
+end_after Fails = None
 
 -- the first call
 abbrev pub calls : Reaction → Option DeskCall
 calls (Asks call follow) = Some call
 calls turn = None
 
--- at each of these places
+-- at each of these places, where no answer is awaited, before it and behind it
 abbrev pub Does : Core → Moment → List EndInState → Told → ℕ → List LinkAction → Ended → Type 0
 Does c at places told state acts ended =
     map (λ p. shows (turn at (placed p c) told)) places
-    ≡ map (λ p. Some (record { state = state; acts = acts; ended = ended })) places
+    ≡ map (λ p. shown state acts (ends_as.Ended ended) None) places
 
 abbrev pub sends : List ℕ → List LinkAction
 sends bytes = Write bytes ∷ []
@@ -161,6 +175,12 @@ pub record Requests (c : Core) (now : ℕ) (rq : AssociateRq) : Type 0 where
   pub accepted : Does (at_archive c) (moment now 0) (acceptor Sta2 ∷ [])
       (told.Plain (input.Request proposal)) 6
       (write (pdu.AssociateAc (acceptance_of proposal archive_site) ∷ []) ∷ []) Closed
+  -- its peer is the one that calls
+  pub caller : option_map (λ (after : Core). after.peer)
+      (end_after
+      (turn (moment now 0) (placed (acceptor Sta2) (at_archive c))
+      (told.Plain (input.Request proposal))))
+      ≡ Some gate
   -- the 256 associations of a node are open: the service provider rejects
   pub full : Does (at_archive c) (moment now 256) (acceptor Sta2 ∷ [])
       (told.Plain (input.Request proposal)) 13 (rejection 2 3 2) (Rejected (rj 2 3 2))
@@ -216,21 +236,22 @@ pub record Passings (c : Core) (at : Moment) (uid : Text) : Type 0 where
   pub leaves : shows
       (on_answer (due at (placed (requestor Sta6) c) (Ok (Some (Unreadable uid))))
       (Settling (Ok tt)))
-      ≡ Some (record { state = 13; acts = abort 0 0; ended = Aborted })
+      ≡ shown 13 (abort 0 0) (ends_as.Ended Aborted) None
   pub settled_before : shows
       (on_answer (due at (placed (requestor Sta6) c) (Ok (Some (Unreadable uid))))
       (Settling (Err ledger.NotWaiting)))
-      ≡ Some (record { state = 13; acts = abort 0 0; ended = Aborted })
+      ≡ shown 13 (abort 0 0) (ends_as.Ended Aborted) None
   pub store_fails : shows
       (on_answer (due at (placed (requestor Sta6) c) (Ok (Some (Unreadable uid))))
       (Settling (Err ledger.Store)))
-      ≡ Some (record { state = 13; acts = abort 0 0; ended = Aborted })
+      ≡ shown 13 (abort 0 0) ends_as.Desk None
 
 -- ---- events 11 to 14: the release
 
 pub record Releases (c : Core) (at : Moment) : Type 0 where
-  pub asks :
-      Does c at (requestor Sta6 ∷ []) (told.Plain input.ReleaseAsked) 7 release_request Closed
+  -- the answer is awaited from then on
+  pub asks : shows (turn at (placed (requestor Sta6) c) (told.Plain input.ReleaseAsked))
+      ≡ shown 7 release_request (ends_as.Ended Closed) (Some at.now)
   pub only : Does c at (acceptor Sta6 ∷ []) (told.Plain input.ReleaseAsked) 6 [] Closed
   pub before : Does c at (acceptor Sta2 ∷ []) (told.Plain input.ReleaseRq) 13 (abort 0 0) Aborted
   pub early : Does c at (requestor Sta5 ∷ requestor Sta11 ∷ []) (told.Plain input.ReleaseRq) 13
@@ -305,10 +326,10 @@ pub record Endings (c : Core) (at : Moment) (p : Pending) : Type 0 where
 abbrev pub awaited : EndInState → Core → Core
 awaited p c = record (placed p c) { awaits = Some 0 }
 
-abbrev pub Waits : Core → ℕ → List EndInState → ℕ → List LinkAction → Ended → Type 0
-Waits c now places state acts ended =
+abbrev pub Waits : Core → ℕ → List EndInState → ℕ → List LinkAction → Ended → Option ℕ → Type 0
+Waits c now places state acts ended awaits =
     map (λ p. shows (turn (moment now 0) (awaited p c) (told.Plain input.Late))) places
-    ≡ map (λ p. Some (record { state = state; acts = acts; ended = ended })) places
+    ≡ map (λ p. shown state acts (ends_as.Ended ended) awaits) places
 
 pub record LateMarks (c : Core) : Type 0 where
   pub fresh : Does c (moment 29999 0) (acceptor Sta2 ∷ []) (told.Plain input.Late) 2 [] Closed
@@ -317,12 +338,12 @@ pub record LateMarks (c : Core) : Type 0 where
       Does c (moment 30000 0) (acceptor Sta2 ∷ closing) (told.Plain input.Late) 1 closes Closed
   -- an end that awaits nothing stays
   pub idle : Does c (moment 60000 0) established (told.Plain input.Late) 6 [] Closed
-  pub patient : Waits c 59999 (requestor Sta5 ∷ []) 5 [] Closed
+  pub patient : Waits c 59999 (requestor Sta5 ∷ []) 5 [] Closed (Some 0)
   pub impatient : Waits c 60000
       (requestor Sta5 ∷ requestor Sta6 ∷ requestor Sta7 ∷ requestor Sta11 ∷ []) 13 (abort 0 0)
-      Aborted
+      Aborted None
   -- an acceptor awaits no answer
-  pub accepting : Waits c 60000 (acceptor Sta6 ∷ []) 6 [] Closed
+  pub accepting : Waits c 60000 (acceptor Sta6 ∷ []) 6 [] Closed (Some 0)
 
 -- ---- silence for too long (event 15, or the timer's)
 

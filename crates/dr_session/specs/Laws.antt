@@ -1,6 +1,6 @@
 -- The laws of an end.
 use Rattle.std.specs.Prelude.{◌≡◌, ℕ, false, List, [], ◌∷◌, ◌++◌, map, ◌↔◌, Some, Result, Ok, ◌⊎◌}
-use Rattle.std.specs.Prelude.{◌<◌, ◌^◌, Option, None}
+use Rattle.std.specs.Prelude.{◌<◌, ◌^◌, Option, None, length}
 use Rattle.std.specs.Option.{option_map_or}
 use Rattle.dr_base.specs.Texts.{Text}
 use Rattle.dr_pdu.specs.Feeding.{Feeding}
@@ -11,6 +11,7 @@ use Rattle.dr_ulstate.specs.declared.table.Action.{Action}
 use Rattle.dr_ulstate.specs.declared.table.Action.TheVariants.{Aa1, Aa7, Aa8}
 use Rattle.dr_ulstate.specs.declared.table.Event.{Event}
 use Rattle.dr_ulstate.specs.Table.{abort_source, abort_reason, source_number, reason_number}
+use Rattle.dr_dimse.specs.Taking.{MessageStage}
 use Rattle.dr_dimse.specs.declared.command.Command.{Command}
 use Rattle.dr_dimse.specs.declared.command.Command.TheVariants.{StoreRsp}
 use Rattle.dr_nego.specs.declared.agreed.Agreed.{Agreed}
@@ -28,12 +29,13 @@ use Rattle.dr_session.specs.declared.ends.Moment.{Moment}
 use Rattle.std.specs.List.{AllByRecursion, flat_map}
 use Rattle.dr_pdu.specs.declared.pdu.Pdu.{Pdu}
 use Rattle.dr_pdu.specs.declared.pdu.Pdu.TheVariants as pdu
+use Rattle.dr_pdu.specs.declared.pdu.Pdv.{Pdv}
 use Rattle.dr_nego.specs.Fragments.{spellings}
 use Rattle.dr_session.specs.declared.ends.LinkAction.{LinkAction}
 use Rattle.dr_session.specs.declared.ends.LinkAction.TheVariants.{Write, Close}
 use Rattle.dr_session.specs.declared.ends.Heard.{Heard}
 use Rattle.dr_session.specs.declared.ends.Input.{Input}
-use Rattle.dr_session.specs.declared.ends.Input.TheVariants.{Unknown}
+use Rattle.dr_session.specs.declared.ends.Input.TheVariants.{Unknown, Value}
 use Rattle.dr_session.specs.declared.ends.Told.{Told}
 use Rattle.dr_session.specs.declared.ends.Told.TheVariants.{Plain, Store}
 use Rattle.std.specs.declared.alloc.AllocError.{AllocError}
@@ -48,9 +50,10 @@ use Rattle.dr_session.specs.Messages.{command_pdus}
 use Rattle.dr_session.specs.Reactions.{Reaction, turn, quiet, effect, says, stores, leaves}
 use Rattle.dr_session.specs.Reactions.{aborted, abort_pdu, event_of, store_pdus, write}
 use Rattle.dr_session.specs.Reactions.{acts as acted}
-use Rattle.dr_session.specs.Telling.{TakesData, state_at}
+use Rattle.dr_session.specs.Telling.{TakesData, Tells, state_at}
 use Rattle.dr_session.specs.Turns.{Ends, Asks, Fails, Turns, Run, Makes}
-use Rattle.dr_session.specs.Plays.{PlaysBytes}
+use Rattle.dr_session.specs.Breaks.{IsRequest}
+use Rattle.dr_session.specs.Plays.{At, BreaksOff, PlaysBytes, Stops, with_stage}
 
 abbrev pub answers : List (DeskCall × DeskAnswer) → List DeskAnswer
 answers made = map (λ x. x.1) made
@@ -297,3 +300,36 @@ AbortsAreTheTables =
     → (acted Aa1 at told c ≡ leaves at (write (abort_by Aa1 e told ∷ []) ∷ []) (aborted c))
     × (acted Aa7 at told c ≡ Ends (effect (write (abort_by Aa7 e told ∷ []) ∷ []) (aborted c)))
     × (acted Aa8 at told c ≡ leaves at (write (abort_by Aa8 e told ∷ []) ∷ []) (aborted c))
+
+-- ---- want of memory
+
+-- whatever the input comes to, its turn does nothing, and it is no request for an association
+abbrev pub IsQuietInput : Core → At → Type 0
+IsQuietInput c i =
+    (told : Told) (stage : MessageStage)
+    → Tells c i.input told stage
+    → (IsRequest told → ⊥) × (turn i.moment (with_stage stage c) told ≡ quiet (with_stage stage c))
+
+-- it is no value that comes where the table takes data
+abbrev pub IsNoData : Core → Input → Type 0
+IsNoData c i = (p : Pdv) → i ≡ Value p → TakesData (state_at c) → ⊥
+
+-- what does nothing, and is no data, isn't left on the way
+abbrev pub QuietInputsEnd : {S : Type 0} → (S → DeskCall → DeskAnswer → S → Type 0) → Type 0
+QuietInputsEnd {S} step =
+    (c : Core) (i : At) (s t : S)
+    → IsQuietInput c i
+    → IsNoData c i.input
+    → Stops step c i s t
+    → ⊥
+
+-- nor is it alone, behind nothing or one thing that was written; and no input at all is
+abbrev pub QuietPiecesEnd : {S : Type 0} → (S → DeskCall → DeskAnswer → S → Type 0) → Type 0
+QuietPiecesEnd {S} step =
+    (written : List LinkAction) (c : Core) (i : At) (s t : S)
+    → length written < 2
+    → (BreaksOff step written c [] s t → ⊥)
+    × (IsQuietInput c i
+    → IsNoData c i.input
+    → BreaksOff step written c (i ∷ []) s t
+    → ⊥)

@@ -1,3 +1,4 @@
+pub mod Answered
 pub mod Breaks
 pub mod Changes
 pub mod Desks

@@ -2,7 +2,7 @@
 -- contexts other than 1, within a short limit too; the message id behind 65,535; the reserved bytes
 -- of an association.
 use Rattle.std.specs.Prelude.{◌≡◌, ℕ, List, [], ◌∷◌, ◌++◌, take, drop, codes, replicate, false}
-use Rattle.std.specs.Prelude.{Some}
+use Rattle.std.specs.Prelude.{None, Some}
 use Rattle.dr_base.specs.Texts.{Text}
 use Rattle.dr_ulstate.specs.declared.table.State.TheVariants.{Sta6}
 use Rattle.dr_pdu.specs.declared.pdu.Pdu.TheVariants as pdu
@@ -19,9 +19,11 @@ use Rattle.dr_session.specs.declared.ends.Core.{Core}
 use Rattle.dr_session.specs.declared.ends.Ended.TheVariants.{Closed}
 use Rattle.dr_session.specs.declared.ends.Found.TheVariants.{Read, Nameless, Unreadable, TooLarge}
 use Rattle.dr_session.specs.declared.ends.Moment.{Moment}
+use Rattle.dr_session.specs.declared.ends.Over.TheVariants as ends_as
 use Rattle.dr_session.specs.declared.ends.Told.{Told}
 use Rattle.dr_session.specs.declared.ends.Told.TheVariants.{Store, Whole}
-use Rattle.dr_session.specs.Figures.{acceptor, placed, sends, shows}
+use Rattle.dr_session.specs.Figures.{acceptor, placed, sends, shown, shows}
+use Rattle.dr_session.specs.Messages.{data_pdus}
 use Rattle.dr_session.specs.Reactions.{awaiting, effect, gives_in, id_after, storing, turn}
 use Rattle.dr_session.specs.Statuses.{an_image, uid}
 use Rattle.dr_session.specs.Turns.{Ends}
@@ -34,7 +36,7 @@ within limit = record { pairs = []; limit = limit }
 abbrev pub AcceptorWrites : ℕ → Core → Moment → Told → List ℕ → Type 0
 AcceptorWrites limit c at told bytes =
     shows (turn at (record (placed (acceptor Sta6) c) { agreed = Some (within limit) }) told)
-    ≡ Some (record { state = 6; acts = sends bytes; ended = Closed })
+    ≡ shown 6 (sends bytes) (ends_as.Ended Closed) None
 
 -- a P-DATA-TF of at most 255 bytes: its length, that of its one value, the context and the header
 abbrev pub transfer : ℕ → ℕ → ℕ → ℕ → List ℕ → List ℕ
@@ -66,6 +68,10 @@ pub record EchoAnswers (c : Core) (at : Moment) : Type 0 where
   -- no limit
   pub unlimited :
       AcceptorWrites 0 c at (echo_in 5 verification) (transfer 84 80 5 3 (echo_answer 0 0))
+  -- an end that agreed on nothing knows no limit
+  pub unagreed : shows
+      (turn at (record (placed (acceptor Sta6) c) { agreed = None }) (echo_in 5 verification))
+      ≡ shown 6 (sends (transfer 84 80 5 3 (echo_answer 0 0))) (ends_as.Ended Closed) None
   -- PDUs of at most 32 bytes: three, each with 26 bytes of the response, and the last one marked
   pub short : AcceptorWrites 32 c at (echo_in 5 verification)
       (transfer 32 28 5 1 (take 26 (echo_answer 0 0))
@@ -134,6 +140,14 @@ pub record MessageIds (c : Core) (at : Moment) : Type 0 where
       ≡ Ends
       (effect (sends (transfer 108 104 3 3 (store_request 1 0) ++ transfer 6 2 3 2 []))
       (awaiting (storing 1 3 uid) at.now (at_last 65535 c)))
+
+-- ---- a data set
+
+-- with no limit it is in one P-DATA-TF, and within 8 bytes in as many as it takes
+pub record DataSets : Type 0 where
+  pub unlimited : spellings (data_pdus 0 5 (1 ∷ 2 ∷ 3 ∷ [])) ≡ transfer 9 5 5 2 (1 ∷ 2 ∷ 3 ∷ [])
+  pub short : spellings (data_pdus 8 5 (1 ∷ 2 ∷ 3 ∷ []))
+      ≡ transfer 8 4 5 0 (1 ∷ 2 ∷ []) ++ transfer 7 3 5 2 (3 ∷ [])
 
 -- ---- the 32 reserved bytes of an association (PS3.8 9.3.2, 9.3.3)
 

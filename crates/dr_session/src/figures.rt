@@ -1,4 +1,5 @@
 //! Worked figures, by computation.
+pub mod answered;
 pub mod outcomes;
 pub mod spelled;
 pub mod statuses;

@@ -4,7 +4,7 @@ use Rattle.dr_ledger.specs.Books.{Line}
 use Rattle.dr_ledger_history.specs.Lines.{line_of}
 use Rattle.dr_ledger_history.specs.declared.line.JournalLine.{JournalLine}
 use Rattle.dr_ledger_views.specs.Numbers.{AreBehind, counted, last_of}
-use Rattle.dr_ledger_views.proofs.Numbered.{are_numbered, page_is}
+use Rattle.dr_ledger_views.proofs.Numbered.{page_is}
 use Rattle.dr_ledger_memory.proofs.Always.{counts, lasts, reads_as, shown_never}
 use Rattle.dr_ledger_memory.proofs.ledger.MemoryLedgerViews.lines_behind.Goals as goal
 
@@ -23,7 +23,7 @@ returns c =
           ap (λ (ls : List JournalLine). counted after (mapped line_of ls)) is
           ∙ ap (counted after) (sym (take-map line_of (last - after) (drop after notes)) ∙ ap (take (last - after)) (sym (drop-map line_of after notes)))
           ∙ page_is after last (mapped line_of notes)) e;
-      numbered = are_numbered (mapped line_of notes);
+      numbered = refl;
       same = λ holds. (refl, refl);
       counts = counts r (shown_never r _ e);
       armed = refl;
