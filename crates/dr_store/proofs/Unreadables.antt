@@ -43,7 +43,7 @@ same_count x a b counts = elim counts.no_other [
   | inr same ↦ same
 ]
 
-counted_so : {A : Type 0} (r : Result A LedgerFault) (a b : ℕ) → b ≡ a → (r ≡ Err fault.Store → ⊥) → Counts r a b
+pub counted_so : {A : Type 0} (r : Result A LedgerFault) (a b : ℕ) → b ≡ a → (r ≡ Err fault.Store → ⊥) → Counts r a b
 counted_so r a b same none = record {
   never_falls = omega (arith, same);
   has_cause = λ stored. absurd (none stored);

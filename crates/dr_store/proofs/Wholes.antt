@@ -1,5 +1,5 @@
 -- What is said of the tables' own books is said of the whole ones.
-use Rattle.std.proofs.Common.{◌≡◌, ◌+◌, ℕ, List, [], length, take, sym, ap, subst, ◌∙◌, arith}
+use Rattle.std.proofs.Common.{◌≡◌, ◌+◌, ◌-◌, ℕ, List, [], length, take, sym, ap, subst, ◌∙◌, arith}
 use Rattle.std.proofs.lemmas.List.{take_all}
 use Rattle.sqlite.specs.Tree.{Trees}
 use Rattle.dr_site.specs.Parts.{Part}
@@ -61,3 +61,10 @@ books_are_whole all seal n part db l =
           numbers_count_all_lines past n part db l
           ∙ ap (λ (b : Book). length b.lines + 1) (sym is);
     }
+
+-- the lines of the whole book are as many as come before the next one
+pub all_before : (all : List Line) (seal : Seal) (n count : ℕ) (part : Part) (db : Trees)
+    → IsLedgerOf (past_in all seal) n part db → count ≡ n - 1
+    → count ≡ length (whole_book all db).lines
+all_before all seal n count part db l is =
+    let next = (books_are_whole all seal n part db l).next in omega (arith, next, is)

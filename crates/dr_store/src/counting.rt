@@ -1,5 +1,5 @@
 //! The counts of a ledger: of its lines, and of the failures of its store.
-ghost use Rattle.std.specs.Prelude.{◌≡◌, ◌≤◌, ◌^◌, OnOk};
+ghost use Rattle.std.specs.Prelude.{◌≡◌, ◌≤◌, ◌-◌, ◌^◌, OnOk};
 ghost use Rattle.dr_ledger.specs.Replies.{Counts};
 ghost use Rattle.dr_store_calls.specs.Calling.{advanced};
 ghost use Rattle.dr_store.specs.Counting.{failures_after, failures_with};
@@ -46,4 +46,11 @@ pub fn next_after<T>(answer: &Result<T, LedgerFault>, next: u64) -> u64
         Ok(_) => next + 1,
         Err(_) => next,
     }
+}
+
+/// How many lines come before the one of that number: the first has number 1.
+pub fn lines_before(next: u64) -> u64
+    ensures { result ≡ next - 1 }
+{
+    next.saturating_sub(1)
 }

@@ -20,7 +20,7 @@ ghost use Rattle.dr_store.specs.Reading.{QueuedAreThere, TellsWhereNeeded, Tells
 ghost use Rattle.dr_store.specs.Pasts.{whole_book};
 ghost use Rattle.dr_store.specs.Surviving.{AdoptsWhole, MakesLedger, TakesOver, Wrote};
 
-use crate::counting::{counted, next_after};
+use crate::counting::{counted, lines_before, next_after};
 use crate::listing::{first_unfit, list_arrivals, list_kept, list_rows, list_rows_and_keys};
 use crate::reading::{admit, due_row, has_data_set, has_in, next_job, read_row};
 use crate::telling::{list_lines, tell_behind, tell_whole};
@@ -697,6 +697,10 @@ impl<S: Alter, B: Shelf, P: LedgerPast> Views for SqlLedger<S, B, P> {
         let answer = count_kept(&mut self.conn, self.alloc);
         self.failures = counted(&answer, self.failures);
         answer
+    }
+
+    fn line_count(&mut self) -> Result<u64, LedgerFault> {
+        Ok(lines_before(self.next))
     }
 
     fn count_rows(&mut self, dest: &Text, stage: Stage) -> Result<u64, LedgerFault> {

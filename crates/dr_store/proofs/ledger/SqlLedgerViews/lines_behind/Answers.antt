@@ -6,7 +6,6 @@ use Rattle.dr_ledger.specs.Books.{Line}
 use Rattle.dr_ledger_history.specs.Lines.{line_of}
 use Rattle.dr_ledger_history.specs.declared.line.JournalLine.{JournalLine}
 use Rattle.dr_ledger_views.specs.Numbers.{AreBehind, counted, last_of}
-use Rattle.dr_ledger_views.proofs.Numbered.{are_numbered}
 use Rattle.dr_store_sealed.specs.declared.seal.Seal.{Seal}
 use Rattle.dr_store_past.specs.Lines.{past_in}
 use Rattle.dr_store_schema.specs.Books.{lines_of as own_lines}
@@ -66,7 +65,7 @@ returns g c =
           (λ k lines shown. subst (λ (p : List Line). AreBehind c.args.after c.args.limit (counted 0 (p ++ own_lines base)) (mapped line_of lines)) (sym (past_kept all seal n part base k.kept.ledger))
           (both_behind past seal.count n part base c.args.after c.args.limit (mapped line_of lines) k.kept.ledger (as_many seal.count all (g.P.LedgerPast.reached c.args.self.now.past (clean safe.1).1)) (shown safe.1.1)))
           (λ lines. by_code (coded_list (coded× coded_ℕ coded_line)) _ _) safe.0;
-      numbered = are_numbered (whole_book all base).lines;
+      numbered = refl;
       same = λ safe. looked_books n part r old new Shows (kept (clean safe.1)) looked all (g.B.Shelf.read_of c.args.self.now.shelf) safe.0;
       counts = c.counted-self.ensures.counts;
       armed = refl;
