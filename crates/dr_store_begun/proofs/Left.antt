@@ -1,8 +1,9 @@
 -- Lines of a page that are told one after another.
 use Rattle.std.proofs.Common.{◌≡◌, ℕ, List, [], ◌∷◌, ◌++◌, length, refl, sym, ap, subst, ◌∙◌, arith}
 use Rattle.std.proofs.lemmas.List.{append-nil, append_assoc}
-use Rattle.dr_ledger.specs.Books.{Book, Line, after, empty_book}
-use Rattle.dr_ledger.specs.Histories.{IsPast}
+use Rattle.dr_ledger.specs.Books.{Book, Fold, Line, after, empty_book}
+use Rattle.dr_ledger.specs.Histories.{IsJournalled, IsPast}
+use Rattle.dr_ledger.specs.Routings.{Routing}
 use Rattle.dr_ledger_history.specs.Contents.{Content}
 use Rattle.dr_ledger_history.specs.Told.{IsTold}
 
@@ -56,3 +57,6 @@ module _ (first : Content) (all : List Line) (now : Content) (left : List Line) 
 pub no_items : {X : Type 0} (items : List X) (n : ℕ) → n ≡ length items → n ≡ 0 → items ≡ []
 no_items [] n e zero = refl
 no_items (x ∷ items) n e zero = absurd (let l : length (x ∷ items) ≡ 0 = sym e ∙ zero in omega (arith, l))
+
+pub journal_as : (routing : Routing) (lines : List Line) → IsJournalled routing (Fold (lines ++ [])) → IsJournalled routing (Fold lines)
+journal_as routing lines is = subst (λ ls. IsJournalled routing (Fold ls)) (append-nil lines) is

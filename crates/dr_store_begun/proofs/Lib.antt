@@ -1,3 +1,4 @@
 mod Left
 mod Paged
 mod Refused
+mod Worked

@@ -6,6 +6,7 @@
 
 mod beginning;
 mod fault;
+pub mod laws;
 mod pages;
 
 pub use beginning::begin;
