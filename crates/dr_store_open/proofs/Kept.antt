@@ -1,6 +1,6 @@
 -- A ledger's tables, as its calls keep them and as an opening finds them.
 use Rattle.std.proofs.Common.{◌≡◌, ◌+◌, ℕ, List, [], ◌∷◌, map as mapped, length, is_some}
-use Rattle.std.proofs.Common.{refl, sym, ap, subst, ◌∙◌, arith}
+use Rattle.std.proofs.Common.{refl, sym, ap, subst, ◌∙◌, arith, length-append}
 use Rattle.std.specs.Cmp.{nat_cmp_total}
 use Rattle.std.specs.Cmp.Lexicographic.{nat_list_cmp_total}
 use Rattle.std.specs.declared.cmp.Ordering.{Ordering}
@@ -28,7 +28,7 @@ use Rattle.dr_store_changes.specs.Writing.{CountTo, numbers_in}
 use Rattle.dr_store_calls.specs.Calling.{IsLedgerOf}
 use Rattle.dr_store_calls.specs.Owners.{IsOwnedBy}
 use Rattle.dr_store_audit.specs.Journal.{CountUp}
-use Rattle.dr_store_open.specs.Opening.{HasLedgerOf, HaveAllLines, IsAgreed}
+use Rattle.dr_store_open.specs.Opening.{CountsPast, HasLedgerOf, IsAgreed}
 
 -- ---- the numbers of lines, whatever is told of each
 
@@ -121,22 +121,24 @@ print_there db uid = there whole_print_in (db 3) uid ∙ sym (there (λ r. (whol
 -- ---- both
 
 -- what is found to be a ledger's is kept as one
-pub found_is_kept : (n : ℕ) (part : Part) (db : Trees) → IsAgreed n part db → IsOwnedBy part db → HaveAllLines db → IsLedgerOf [] n part db
-found_is_kept n part db all mine none_left =
+pub found_is_kept : (past : List Line) (n : ℕ) (part : Part) (db : Trees) → IsAgreed past n part db → IsOwnedBy part db → CountsPast past db → IsLedgerOf past n part db
+found_is_kept past n part db all mine count =
     let notes = map.entries (notes_of db) in
-    let many : n ≡ 1 + length notes =
+    let first = length past + 1 in
+    let many : n ≡ first + length notes =
     (let next = all.next in
+    let both = length-append past (lines_of db) in
     let lines = as_many db in
     let numbers = ap length (noted db) ∙ length-map notes (λ (e : ℕ × JournalRow). e.0) in
-    omega (arith, next, lines, numbers)) in
+    omega (arith, next, both, lines, numbers)) in
     record {
       owned = mine;
-      counted = sym none_left;
+      counted = count;
       together = λ uid. sym (key_there db uid) ∙ all.hold.together uid ∙ print_there db uid;
       numbered = record {
         below = all.below;
-        count = subst (CountTo n 1) (sym (noted db))
-            (subst (λ k. CountTo k 1 (mapped (λ (e : ℕ × JournalRow). e.0) notes)) (sym many) (counts 1 notes all.hold.numbered));
+        count = subst (CountTo n first) (sym (noted db))
+            (subst (λ k. CountTo k first (mapped (λ (e : ℕ × JournalRow). e.0) notes)) (sym many) (counts first notes all.hold.numbered));
       };
       ahead = all.hold.found.ahead;
       journalled = all.hold.found.journalled;
@@ -144,21 +146,23 @@ found_is_kept n part db all mine none_left =
     }
 
 -- what is kept as one is found to be one
-pub kept_agrees : (n : ℕ) (part : Part) (db : Trees) → IsLedgerOf [] n part db → IsAgreed n part db
-kept_agrees n part db l =
+pub kept_agrees : (past : List Line) (n : ℕ) (part : Part) (db : Trees) → IsLedgerOf past n part db → IsAgreed past n part db
+kept_agrees past n part db l =
     let notes = map.entries (notes_of db) in
+    let first = length past + 1 in
     record {
       next =
-          (let many = how_many n 1 (numbers_in (db 11)) l.numbered.count in
+          (let many = how_many n first (numbers_in (db 11)) l.numbered.count in
+          let both = length-append past (lines_of db) in
           let lines = as_many db in
-          omega (arith, many, lines));
+          omega (arith, many, both, lines));
       below = l.numbered.below;
       hold = record {
         found = record { ahead = l.ahead; journalled = l.journalled; there = l.bodied.there };
         together = λ uid. key_there db uid ∙ l.together uid ∙ sym (print_there db uid);
-        numbered = counted n 1 notes (subst (CountTo n 1) (noted db) l.numbered.count);
+        numbered = counted n first notes (subst (CountTo n first) (noted db) l.numbered.count);
       };
     }
 
-pub kept_is_found : (n : ℕ) (part : Part) (d : Database) → d.schema ≡ tables → IsLedgerOf [] n part d.trees → HasLedgerOf n part d
-kept_is_found n part d schema l = record { schema = schema; owned = l.owned; lines = sym l.counted; agreed = kept_agrees n part d.trees l }
+pub kept_is_found : (past : List Line) (n : ℕ) (part : Part) (d : Database) → d.schema ≡ tables → IsLedgerOf past n part d.trees → HasLedgerOf past n part d
+kept_is_found past n part d schema l = record { schema = schema; owned = l.owned; counted = l.counted; agreed = kept_agrees past n part d.trees l }

@@ -46,20 +46,19 @@ all_low b a (e ∷ notes) up le =
     let first : e.0 ≡ a = up.0 in
     (omega (arith, first, le), all_low b (a + 1) notes up.1 (omega (arith, le)))
 
--- where lines are numbered from 1, none has a number beyond their count
-all_below : (m : ℕ) (notes : List (ℕ × JournalRow)) → CountUp 1 notes → (rows : List Row)
+-- where no listed line has a number beyond that one, no row has
+rows_below : (m n : ℕ) (notes : List (ℕ × JournalRow)) → AllByRecursion (λ (e : ℕ × JournalRow). e.0 < n) notes → (rows : List Row)
     → AreBelow m rows
     → AllByRecursion (λ row. Contains notes (number_in (rowid row), note_in row)) rows
-    → AreBelow (length notes + 1) rows
-all_below m notes up [] low each = tt
-all_below m notes up (row ∷ rows) low each =
-    let Low : ℕ × JournalRow → Type 0 = λ e. e.0 < length notes + 1 in
-    let all = All-from_recursion Low notes
-    (all_low (length notes + 1) 1 notes up (omega arith)) in
-    let its : number_in (rowid row) < length notes + 1 =
+    → AreBelow n rows
+rows_below m n notes up [] low each = tt
+rows_below m n notes up (row ∷ rows) low each =
+    let Low : ℕ × JournalRow → Type 0 = λ e. e.0 < n in
+    let all = All-from_recursion Low notes up in
+    let its : number_in (rowid row) < n =
     All-contains Low notes (number_in (rowid row), note_in row) all each.0 in
     let is : number_in (rowid row) ≡ low.0.0 = ap number_in low.0.1 in
-    ((low.0.0, low.0.1, omega (arith, its, is)), all_below m notes up rows low.1 each.1)
+    ((low.0.0, low.0.1, omega (arith, its, is)), rows_below m n notes up rows low.1 each.1)
 
 lines_counted : (db : Trees) (notes : List (ℕ × JournalRow)) → IsJournal db notes
     → length notes ≡ length (lines_of db)
@@ -67,56 +66,62 @@ lines_counted db notes journal =
     sym (length-map notes (λ (e : ℕ × JournalRow). line_of (db 12) e.0 e.1))
     ∙ ap length (journal.lines (db 12))
 
--- what was compared
-pub agreed : (part : Part) (db : Trees) (notes : List (ℕ × JournalRow))
-    (next m : ℕ) → IsJournal db notes
-    → next ≡ length notes + 1 → AreBelow m (db 11) → HoldTogether [] next part db notes
-    → IsAgreed next part db
-agreed part db notes next m journal after low hold = record {
-  next = after ∙ ap (λ k. k + 1) (lines_counted db notes journal);
-  below = subst (λ k. AreBelow k (db 11)) (sym after) (all_below m notes hold.numbered (db 11) low journal.each);
-  hold = subst (HoldTogether [] next part db) journal.notes hold;
-}
+module _ (part : Part) (db : Trees) (notes : List (ℕ × JournalRow)) (journal : IsJournal db notes) where
+  -- the rows of lines whose numbers were tested
+  pub all_below : (n : ℕ) → HasNumbers db → AllByRecursion (λ (e : ℕ × JournalRow). e.0 < n) notes → AreBelow n (db 11)
+  all_below n numbers low = rows_below numbers.0 n notes low (db 11) numbers.1 journal.each
 
--- lists that don't hold together are no ledger's
-pub not_agreed : (part : Part) (db : Trees) (notes : List (ℕ × JournalRow)) (next : ℕ)
-    → IsJournal db notes → next ≡ length notes + 1 → (HoldTogether [] next part db notes → ⊥)
-    → (n : ℕ) → IsAgreed n part db → ⊥
-not_agreed part db notes next journal after apart n is =
-    let same : n ≡ next =
-    is.next ∙ ap (λ k. k + 1) (sym (lines_counted db notes journal)) ∙ sym after in
-    apart (subst (λ k. HoldTogether [] k part db notes) same
-    (subst (HoldTogether [] n part db) (sym journal.notes) is.hold))
+  module _ (past : List Line) (begun : Begun) (is : HasBegun past begun) where
+    -- the number of the line behind all of them
+    next_is : (next : ℕ) → next ≡ begun.first + length notes → IsNext past next db
+    next_is next after =
+        let first = is.next in
+        let lines = lines_counted db notes journal in
+        let both = length-append past (lines_of db) in
+        omega (arith, after, first, lines, both)
 
-pub whole_if : (part : Part) (place : DataPlace) (db : Trees) (found : Option FoundTables)
-    → IsAgreedIf part place db found → IsPlaceOf part db place → HaveAllLines db → IsWholeIf part db found
-whole_if part place db None agrees says lines = λ n is mine all. agrees n is
-whole_if part place db (Some found) agrees says lines = (agrees says, lines)
+    -- what was compared
+    pub agreed : (next : ℕ) → next ≡ begun.first + length notes → AreBelow next (db 11) → HoldTogether past next part db notes
+        → IsAgreed past next part db
+    agreed next after below hold = record {
+      next = next_is next after;
+      below = below;
+      hold = subst (HoldTogether past next part db) journal.notes hold;
+    }
+
+    -- lists that don't hold together are no ledger's
+    pub not_agreed : (next : ℕ) → next ≡ begun.first + length notes → (HoldTogether past next part db notes → ⊥)
+        → (n : ℕ) → IsAgreed past n part db → ⊥
+    not_agreed next after apart n it =
+        let same : n ≡ next = it.next ∙ sym (next_is next after) in
+        apart (subst (λ k. HoldTogether past k part db notes) same
+        (subst (HoldTogether past n part db) (sym journal.notes) it.hold))
+
+    -- nor are those with a line beyond their count
+    pub not_below : (next : ℕ) → next ≡ begun.first + length notes → (AllByRecursion (λ (e : ℕ × JournalRow). e.0 < next) notes → ⊥)
+        → (n : ℕ) → IsAgreed past n part db → ⊥
+    not_below next after beyond n it =
+        let up : CountUp (length past + 1) notes = subst (CountUp (length past + 1)) (sym journal.notes) it.hold.numbered in
+        let first = is.next in
+        beyond (all_low next (length past + 1) notes up (omega (arith, after, first)))
 
 -- ---- where the data sets are
 
--- what a mark says, where its seal counts no line
-pub under_seal : (mark : List ℕ) (None_left : Type 0) (place : Option DataPlace)
-    → None_left → MatchOption place (IsMark mark → ⊥) (IsPlaceIn mark)
-    → MatchOption place (IsMark mark → None_left → ⊥) (λ p. IsPlaceIn mark p × None_left)
-under_seal mark None_left None lines none = λ marked all. none marked
-under_seal mark None_left (Some place) lines is = (is, lines)
-
--- what the owner's row says of the place
-pub placed : (part : Part) (db : Trees) (mark seal cell : List ℕ) (place : Option DataPlace)
+-- what the owner's row says
+pub placed : (part : Part) (db : Trees) (mark seal cell : List ℕ) (said : Option (DataPlace × Seal))
     → IsPlanWith mark seal part.digest cell → IsSiteOf part.name cell db
-    → MatchOption place (IsMark mark → (seal_said seal).count ≡ 0 → ⊥) (λ p. IsPlaceIn mark p × ((seal_said seal).count ≡ 0))
-    → MatchOption place (IsOwnedBy part db → HaveAllLines db → ⊥) (λ p. IsPlaceOf part db p × HaveAllLines db)
-placed part db mark seal cell place with site is = go place is
+    → MatchOption said (IsMark mark → ⊥) (λ p. IsPlaceIn mark p.0 × (p.1 ≡ seal_said seal))
+    → IsSaidIf part db said
+placed part db mark seal cell said with site is = go said is
   where
-    counts : (seal_in db).count ≡ (seal_said seal).count
-    counts = ap (λ (s : Seal). s.count) (seals_are_read mark seal part db (cell, with, site))
+    says : seal_in db ≡ seal_said seal
+    says = seals_are_read mark seal part db (cell, with, site)
 
-    go : (place : Option DataPlace) → MatchOption place (IsMark mark → (seal_said seal).count ≡ 0 → ⊥) (λ p. IsPlaceIn mark p × ((seal_said seal).count ≡ 0))
-        → MatchOption place (IsOwnedBy part db → HaveAllLines db → ⊥) (λ p. IsPlaceOf part db p × HaveAllLines db)
-    go None none = λ owned all. none with.marked (sym counts ∙ all)
-    go (Some put.InRows) is = ((seal, (cell, subst (λ m. IsPlanWith m seal part.digest cell) is.0 with, site)), counts ∙ is.1)
-    go (Some (put.InFile said)) is = ((mark, (seal, (cell, with, site)), is.0), counts ∙ is.1)
+    go : (said : Option (DataPlace × Seal)) → MatchOption said (IsMark mark → ⊥) (λ p. IsPlaceIn mark p.0 × (p.1 ≡ seal_said seal))
+        → IsSaidIf part db said
+    go None none = λ owned. none with.marked
+    go (Some (put.InRows, last)) is = ((seal, (cell, subst (λ m. IsPlanWith m seal part.digest cell) is.0 with, site)), is.1 ∙ sym says)
+    go (Some (put.InFile said, last)) is = ((mark, (seal, (cell, with, site)), is.0), is.1 ∙ sym says)
 
 pub owned_at : (part : Part) (db : Trees) (place : DataPlace) → IsPlaceOf part db place → IsOwnedBy part db
 owned_at part db put.InRows is = ([], is)

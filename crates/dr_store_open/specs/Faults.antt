@@ -9,6 +9,7 @@ IsOfData opening.NoData = Unit {0}
 IsOfData opening.DataIsThere = Unit {0}
 IsOfData opening.InUse = Unit {0}
 IsOfData opening.OtherSite = ⊥
+IsOfData (opening.LostPast number) = ⊥
 IsOfData opening.Store = ⊥
 IsOfData opening.Memory = ⊥
 

@@ -1,3 +1,4 @@
+pub mod Behind
 pub mod DataSets
 pub mod Faults
 pub mod Listed

@@ -1,7 +1,7 @@
 -- What is found in a file, and what an opening answers.
-use Rattle.std.specs.Prelude.{◌≡◌, ◌<◌, ◌≤◌, ◌+◌, ◌++◌, ◌⊎◌, ℕ, zero, suc, List, [], ◌∷◌}
+use Rattle.std.specs.Prelude.{◌≡◌, ◌≢◌, ◌≤◌, ◌+◌, ◌++◌, ◌⊎◌, ℕ, zero, suc, List, [], ◌∷◌}
 use Rattle.std.specs.Prelude.{true, false, IsTrue}
-use Rattle.std.specs.Prelude.{IfErr, IfOk, Option, None, Some, Result, Ok, Err, OnOk, length}
+use Rattle.std.specs.Prelude.{Option, None, Some, Result, OnOk, is_some, length}
 use Rattle.std.specs.FinMap as map
 use Rattle.sqlite.specs.Effect.{Database, IsDatabase}
 use Rattle.sqlite.specs.State.{State, HasCleanDisk}
@@ -13,9 +13,10 @@ use Rattle.dr_base.specs.Texts.{Text}
 use Rattle.dr_site.specs.Parts.{Part}
 use Rattle.dr_ledger.specs.declared.content.Job.{Job}
 use Rattle.dr_ledger.specs.declared.fault.LedgerFault.{LedgerFault}
-use Rattle.dr_ledger.specs.Books.{empty_book}
+use Rattle.dr_ledger.specs.Books.{Line, empty_book}
 use Rattle.dr_ledger.specs.Items.{IsItem, instance_of}
 use Rattle.dr_ledger.specs.Replies.{Reads}
+use Rattle.dr_ledger.specs.SiteRoutes.{site_routing}
 use Rattle.dr_store_shelf.specs.declared.either.LedgerShelf.{LedgerShelf}
 use Rattle.dr_store_shelf.specs.Either.{IsCleanOn, named_on}
 use Rattle.dr_store_schema.specs.Books.{AreBelow, bodies_of, book_of, items_of, lines_of}
@@ -24,18 +25,21 @@ use Rattle.dr_store_schema.specs.Tables.{tables}
 use Rattle.dr_store_writes.specs.Effects.{IsSiteOf, site_row}
 use Rattle.std.specs.List.{AllByRecursion}
 use Rattle.dr_store_reads.specs.Queries.{Stays}
-use Rattle.dr_store_lists.specs.Lists.{notes_of, whole_prints_of}
+use Rattle.dr_store_lists.specs.Lists.{keys_of, notes_of, whole_prints_of}
 use Rattle.dr_store_lists.specs.declared.listing.JournalRow.{JournalRow}
 use Rattle.dr_store_changes.specs.Writing.{IsReady}
 use Rattle.dr_store_data.specs.declared.mark.DataMark.{DataMark}
 use Rattle.dr_store_data.specs.Heads.{HasHead, IsMarkOf}
+use Rattle.dr_store_sealed.specs.declared.seal.Seal.{Seal}
 use Rattle.dr_store_sealed.specs.InTables.{seal_said}
 use Rattle.dr_store_calls.specs.Owners.{IsMark, IsMarkAndSeal, IsOwnedBy, IsOwnedSo, IsOwnedWith}
 use Rattle.dr_store_calls.specs.Owners.{seal_in}
 use Rattle.dr_store_calls.specs.Calling.{IsKept}
+use Rattle.dr_store_audit.specs.Begun.{HasBegun}
 use Rattle.dr_store_audit.specs.Found.{HoldTogether}
+use Rattle.dr_store_audit.specs.Telling.{GoOnUnder}
+use Rattle.dr_store_audit.specs.declared.begun.Begun.{Begun}
 use Rattle.dr_store_audit.specs.Older.{IsOlder}
-use Rattle.dr_store_open.specs.declared.data.OpenedLedger.{OpenedLedger}
 use Rattle.dr_store_open.specs.declared.data.DataPlace.{DataPlace}
 use Rattle.dr_store_open.specs.declared.fault.OpeningFault.{OpeningFault}
 use Rattle.dr_store_open.specs.declared.fault.OpeningFault.TheVariants as opening
@@ -58,54 +62,80 @@ pub record AreTested (db : Trees) : Type 0 where
 
 -- ---- all of it
 
--- the next line after all lines, which are numbered from 1, has number n
-abbrev pub IsNext : ℕ → Trees → Type 0
-IsNext n db = n ≡ length (lines_of db) + 1
+-- The next line after all lines, those of the past and those of the tables, which are numbered
+-- from 1, has number n.
+abbrev pub IsNext : List Line → ℕ → Trees → Type 0
+IsNext past n db = n ≡ length (past ++ lines_of db) + 1
 
--- The tables are those of a ledger of that site, whose next line has number n: they hold together.
--- For which data sets their cells stand is another matter (`HaveOwn`).
-pub record IsAgreed (n : ℕ) (part : Part) (db : Trees) : Type 0 where
-  pub next : IsNext n db
+-- The tables are those of a ledger of that site with that past, whose next line has number n: they
+-- hold together. For which data sets their cells stand is another matter (`HaveOwn`).
+pub record IsAgreed (past : List Line) (n : ℕ) (part : Part) (db : Trees) : Type 0 where
+  pub next : IsNext past n db
   pub below : AreBelow n (db 11)
-  pub hold : HoldTogether [] n part db (map.entries (notes_of db))
+  pub hold : HoldTogether past n part db (map.entries (notes_of db))
 
--- What is found in the tables of a ledger of that site: the number of its next line, where its data
--- sets are, and all prints.
+-- What is found in the tables of a site, whatever its past is: the number of the next line, above
+-- those of all lines, where its data sets are, and all prints.
 pub record AreOf (part : Part) (db : Trees) (found : FoundTables) : Type 0 where
-  pub agreed : IsAgreed found.next part db
+  pub below : AreBelow found.next (db 11)
   pub place : IsPlaceOf part db found.place
   pub prints : found.prints.items ≡ map.entries (whole_prints_of db)
 
--- it is found in tables whose owner's row says that place, or they are no ledger's of that site
-abbrev pub IsAgreedIf : Part → DataPlace → Trees → Option FoundTables → Type 0
-IsAgreedIf part place db None = (n : ℕ) → IsAgreed n part db → ⊥
-IsAgreedIf part place db (Some found) = IsPlaceOf part db place → AreOf part db found
+-- they are those of a ledger of that site with that past, or are none's
+abbrev pub IsAgreedIf : List Line → Part → Trees → Option FoundTables → Type 0
+IsAgreedIf past part db None = (n : ℕ) → IsAgreed past n part db → ⊥
+IsAgreedIf past part db (Some found) = IsAgreed past found.next part db
 
--- no line has left the tables: their seal counts none
+-- Behind that past the lines of the tables go on under the site's plan: the past is a journal under
+-- it, or one of the tables' lines adopts a plan. So it is by itself where there is no past.
+abbrev pub GoesOn : List Line → Part → Trees → Type 0
+GoesOn past part db = GoOnUnder (site_routing part) past (map.entries (notes_of db))
+
+-- so it is behind each past that was begun with, and from which the tables' lines go on
+abbrev pub AreAgreedBehind : Begun → Part → Trees → Option FoundTables → Type 0
+AreAgreedBehind begun part db found =
+    (past : List Line) → HasBegun past begun → GoesOn past part db → IsAgreedIf past part db found
+
+-- where something is found in tables whose owner's row says that place
+abbrev pub AreOfIf : Part → DataPlace → Trees → Option FoundTables → Type 0
+AreOfIf part place db None = Unit {0}
+AreOfIf part place db (Some found) = IsPlaceOf part db place → AreOf part db found
+
+-- what is listed of tables says both
+pub record IsListed (begun : Begun) (part : Part) (place : DataPlace) (db : Trees)
+    (found : Option FoundTables) : Type 0 where
+  pub are : AreOfIf part place db found
+  pub agreed : AreAgreedBehind begun part db found
+
+-- the owner's row says that place and this seal of the site's tables, or they are another's
+abbrev pub IsSaidIf : Part → Trees → Option (DataPlace × Seal) → Type 0
+IsSaidIf part db None = IsOwnedBy part db → ⊥
+IsSaidIf part db (Some said) = IsPlaceOf part db said.0 × (said.1 ≡ seal_in db)
+
+-- the seal of the tables counts the lines of that past
+abbrev pub CountsPast : List Line → Trees → Type 0
+CountsPast past db = length past ≡ (seal_in db).count
+
+-- no line has left the tables
 abbrev pub HaveAllLines : Trees → Type 0
-HaveAllLines db = (seal_in db).count ≡ 0
-
--- The tables are those of a ledger of that site, it owns them, and they have all its lines; or
--- that isn't so.
-abbrev pub IsWholeIf : Part → Trees → Option FoundTables → Type 0
-IsWholeIf part db None = (n : ℕ) → IsAgreed n part db → IsOwnedBy part db → HaveAllLines db → ⊥
-IsWholeIf part db (Some found) = AreOf part db found × HaveAllLines db
+HaveAllLines db = CountsPast [] db
 
 -- each line has a number
 abbrev pub HasNumbers : Trees → Type 0
 HasNumbers db = (m : ℕ) × AreBelow m (db 11)
 
--- The database has a ledger of that site, whose next line has number n: it has just a ledger's
--- tables, the site owns them, no line has left them, and they are those of a ledger of that site.
-pub record HasLedgerOf (n : ℕ) (part : Part) (db : Database) : Type 0 where
+-- The database has a ledger of that site with that past, whose next line has number n: it has just
+-- a ledger's tables, the site owns them, their seal counts the past, and they are those of a ledger
+-- of that site.
+pub record HasLedgerOf (past : List Line) (n : ℕ) (part : Part) (db : Database) : Type 0 where
   pub schema : db.schema ≡ tables
   pub owned : IsOwnedBy part db.trees
-  pub lines : HaveAllLines db.trees
-  pub agreed : IsAgreed n part db.trees
+  pub counted : CountsPast past db.trees
+  pub agreed : IsAgreed past n part db.trees
 
 -- it has none, whatever the number of the next line
-abbrev pub HasNoLedgerOf : Part → Database → Type 0
-HasNoLedgerOf part db = (n : ℕ) → HasLedgerOf n part db → ⊥
+abbrev pub HasNoLedgerOf : List Line → Part → Database → Type 0
+HasNoLedgerOf past part db = (n : ℕ) → HasLedgerOf past n part db → ⊥
 
 -- ---- calls that only read
 
@@ -125,26 +155,19 @@ pub record Seen {A : Type 0} (Asks : Database → Type 0) (result : Result A Led
 
 -- ---- an opening
 
--- where something is found, this holds of it
-abbrev pub IfFound : {A : Type 0} → Result (Option A) LedgerFault → (A → Type 0) → Type 0
-IfFound (Ok None) P = Unit {0}
-IfFound (Ok (Some x)) P = P x
-IfFound (Err why) P = Unit {0}
-
--- where nothing is found, this holds
-abbrev pub IfNotFound : {A : Type 0} → Result (Option A) LedgerFault → Type 0 → Type 0
-IfNotFound (Ok None) P = P
-IfNotFound (Ok (Some x)) P = Unit {0}
-IfNotFound (Err why) P = Unit {0}
-
--- The store is open with the tables of a ledger of that site, which owns them, and whose next line
--- has number n. All of it was committed before.
-pub record IsLedgerFound (n : ℕ) (part : Part) (old new : State) : Type 0 where
-  pub kept : IsKept [] n part new
+-- The store is open with tables that stand ready, which the site owns, and whose lines have numbers
+-- below n. All of it was committed before.
+pub record AreFoundReady (n : ℕ) (part : Part) (old new : State) : Type 0 where
+  pub ready : IsReady n new
   pub owned : IsOwnedBy part new.committed.trees
-  pub next : IsNext n new.committed.trees
-  pub ledger : HasLedgerOf n part new.committed
   pub same : new.committed ≡ old.committed
+
+-- The store is open with the tables of a ledger of that site with that past, whose next line has
+-- number n.
+pub record IsLedgerFound (past : List Line) (n : ℕ) (part : Part) (new : State) : Type 0 where
+  pub kept : IsKept past n part new
+  pub next : IsNext past n new.committed.trees
+  pub ledger : HasLedgerOf past n part new.committed
 
 -- Whatever the call answers, nothing is committed, and a crash leaves only what it could leave
 -- before.
@@ -154,17 +177,6 @@ pub record OnlyLooks (old new : State) : Type 0 where
   pub leaves : HasCleanDisk new → (db : Trees) → new.may_leave db → old.may_leave db
   pub clean : doubt old.is_clean ≤ doubt new.is_clean
   pub idle : old.in_transaction ≡ false → new.in_transaction ≡ false
-
--- What tells whether a file has the tables of a ledger of this site does. Where it says what they
--- have, that ledger is found; where it says nothing, the file has no ledger of this site.
-pub record IsLedgerOpened (part : Part) (result : Result (Option FoundTables) LedgerFault)
-    (old new : State) : Type 0 where
-  pub has : IfFound result (λ found. old.now.schema ≡ tables)
-  pub is_not : HasCleanDisk new → IfNotFound result (HasNoLedgerOf part old.now)
-  pub kept : HasCleanDisk new → IfFound result (λ found. IsLedgerFound found.next part old new)
-  pub are : HasCleanDisk new → IfFound result (AreOf part new.committed.trees)
-  pub was : HasCleanDisk new → IfFound result (λ found. old.now ≡ new.committed)
-  pub looks : OnlyLooks old new
 
 -- What only reads of tables that stand ready does: they stand so still, where it isn't refused.
 pub record StaysReady {A E : Type 0} (n : ℕ) (result : Result A E) (old new : State) : Type 0 where
@@ -178,33 +190,19 @@ pub record StaysReady {A E : Type 0} (n : ℕ) (result : Result A E) (old new : 
 abbrev pub HasOther : Part → Trees → Type 0
 HasOther part db = IsOwnedWith [] part db × (((uid : Text) → IsOwn uid db) → ⊥)
 
+-- each instance that has a key has a print, and the other way round
+abbrev pub AreBeside : Trees → Type 0
+AreBeside db =
+    (uid : Text)
+    → is_some (map.get (keys_of db) uid) ≡ is_some (map.get (whole_prints_of db) uid)
+
 -- Why a ledger isn't opened whose tables were found: its data sets are in rows, and not each is
 -- that of its item; or it is a fault of the file of its data sets, which no ledger has that has
--- them in its rows. What a data set in a file is, is no reason.
-abbrev pub IsWhyNot : Part → Trees → OpeningFault → Type 0
-IsWhyNot part db fault =
-    (fault ≡ opening.OtherSite → HasOther part db)
-    × (IsOfData fault → IsOwnedWith [] part db → ⊥)
-
--- Why none is opened: the file has no ledger of this site, or it is as above.
-abbrev pub IsWhy : Part → Database → OpeningFault → Type 0
-IsWhy part was fault =
-    (fault ≡ opening.OtherSite → (n : ℕ) → HasLedgerOf n part was → HasOther part was.trees)
-    × (IsOfData fault → was.schema ≡ tables → IsOwnedWith [] part was.trees → ⊥)
-
-module _ {D : Type 0} {g : Ghosts D} where
-  -- What opens a ledger whose tables are there does. Where it answers, the ledger is found with its
-  -- shelf. Whatever it answers, it only looks at the tables. `Stood` says that they weren't made
-  -- just now.
-  pub record IsWholeOpened (Stood : Type 0) (part : Part)
-      (result : Result (OpenedLedger D g) OpeningFault) (old new : State) : Type 0 where
-    pub has : IfOk result (λ it. old.now.schema ≡ tables)
-    pub kept : HasCleanDisk new → IfOk result (λ it. IsLedgerFound it.next part old new)
-    pub placed : HasCleanDisk new
-        → IfOk result (λ it. IsPlacedBy part new.committed.trees it.shelf)
-    pub own : HasCleanDisk new → IfOk result (λ it. HasOwnOn new.committed.trees it.shelf)
-    pub why : Stood → HasCleanDisk new → IfErr result (IsWhy part old.now)
-    pub looks : OnlyLooks old new
+-- them in its rows. What a data set in a file is, is no reason, nor is its past.
+pub record IsWhyNot (part : Part) (db : Trees) (fault : OpeningFault) : Type 0 where
+  pub other : fault ≡ opening.OtherSite → AreBeside db → HasOther part db
+  pub of_data : IsOfData fault → IsOwnedWith [] part db → ⊥
+  pub past : (number : ℕ) → fault ≢ opening.LostPast number
 
 -- there is no table, no index and no view
 pub record IsBlank (schema : Schema) : Type 0 where
@@ -274,7 +272,7 @@ NewLedgersAreLedgers =
     (part : Part) (mark : List ℕ)
     → length part.digest ≡ 32
     → IsMark mark
-    → HasLedgerOf 1 part (record { schema = tables; trees = new_trees part mark })
+    → HasLedgerOf [] 1 part (record { schema = tables; trees = new_trees part mark })
 
 -- a ledger has its data sets in its rows, or in one file, under one key and with one mark
 abbrev pub PlacesAreOne : Type 0
@@ -312,52 +310,31 @@ module _ {D : Type 0} (g : Ghosts D) where
       → (item : Job) × IsItem item × (item.body ≡ body)
       × (map.get (items_of db) uid ≡ Some (instance_of item))
 
--- A site's ledger isn't taken for another's: where its data sets are in a file, whatever they are;
--- where they are in rows, if each is that of its item. Nor is one that has its data sets in rows
--- refused for a file of data sets: for one that is missing, that is there, or that is in use.
-pub record LedgersAreTheirSites : Type 0 where
-  pub marked : (n : ℕ) (part : Part) (db : Database) (mark : List ℕ) (said : DataMark)
-      → HasLedgerOf n part db
-      → IsOwnedWith mark part db.trees
-      → IsMarkOf mark said
-      → IsWhy part db opening.OtherSite → ⊥
-  pub own : (n : ℕ) (part : Part) (db : Database)
-      → HasLedgerOf n part db
-      → ((uid : Text) → IsOwn uid db.trees)
-      → IsWhy part db opening.OtherSite → ⊥
-  pub lost : (n : ℕ) (part : Part) (db : Database)
-      → HasLedgerOf n part db
-      → IsOwnedWith [] part db.trees
-      → IsWhy part db opening.NoData → ⊥
-  pub there : (n : ℕ) (part : Part) (db : Database)
-      → HasLedgerOf n part db
-      → IsOwnedWith [] part db.trees
-      → IsWhy part db opening.DataIsThere → ⊥
-  pub in_use : (n : ℕ) (part : Part) (db : Database)
-      → HasLedgerOf n part db
-      → IsOwnedWith [] part db.trees
-      → IsWhy part db opening.InUse → ⊥
-
--- what a database has is one node's ledger, under one plan, and its next line has one number
+-- With one past, what a database has is one node's ledger, under one plan, and its next line has
+-- one number.
 abbrev pub LedgersAreOne : Type 0
 LedgersAreOne =
-    (n m : ℕ) (part other : Part) (db : Database)
-    → HasLedgerOf n part db → HasLedgerOf m other db
+    (past : List Line) (n m : ℕ) (part other : Part) (db : Database)
+    → HasLedgerOf past n part db → HasLedgerOf past m other db
     → (n ≡ m) × (part.name ≡ other.name) × (part.digest ≡ other.digest)
 
--- without an owner, with other bytes behind a plan's SHA-256 than those of a mark and a seal, with
--- a seal that counts lines, or with a line under another number than its place, there is none
+-- Without an owner, with other bytes behind a plan's SHA-256 than those of a mark and a seal, with a
+-- seal that counts another number of lines than its past has, or with a line under another number
+-- than its place behind the past, there is none.
 pub record BadTablesAreNone : Type 0 where
-  pub unowned : (part : Part) (db : Database) → db.trees 0 ≡ [] → HasNoLedgerOf part db
-  pub unmarked : (part : Part) (db : Database) (node : Text) (digest behind : List ℕ)
+  pub unowned : (past : List Line) (part : Part) (db : Database)
+      → db.trees 0 ≡ [] → HasNoLedgerOf past part db
+  pub unmarked : (past : List Line) (part : Part) (db : Database) (node : Text)
+      (digest behind : List ℕ)
       → IsSiteOf node (digest ++ behind) db.trees
       → length digest ≡ 32
       → ((mark seal : List ℕ) → IsMarkAndSeal mark seal behind → ⊥)
-      → HasNoLedgerOf part db
-  pub sealed : (part other : Part) (db : Database) (mark seal : List ℕ)
+      → HasNoLedgerOf past part db
+  pub sealed : (past : List Line) (part other : Part) (db : Database) (mark seal : List ℕ)
       → IsOwnedSo mark seal other db.trees
-      → 0 < (seal_said seal).count
-      → HasNoLedgerOf part db
-  pub renumbered : (part : Part) (db : Database) (note : JournalRow) (rest : List (ℕ × JournalRow))
-      → map.entries (notes_of db.trees) ≡ (2, note) ∷ rest
-      → HasNoLedgerOf part db
+      → length past ≢ (seal_said seal).count
+      → HasNoLedgerOf past part db
+  pub renumbered : (past : List Line) (part : Part) (db : Database) (note : JournalRow)
+      (rest : List (ℕ × JournalRow))
+      → map.entries (notes_of db.trees) ≡ (length past + 2, note) ∷ rest
+      → HasNoLedgerOf past part db

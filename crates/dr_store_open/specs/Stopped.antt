@@ -114,8 +114,8 @@ pub record CallsAreStopped (before after : State) : Type 0 where
 abbrev pub HasLedgerStill : Part → WritingCall → Trees → Database → Type 0
 HasLedgerStill part call base d =
     (n : ℕ)
-    × ((HasLedgerOf n part d × (d.trees ≡ base))
-    ⊎ (HasLedgerOf n (site_by part call) d × makes_by part call base d.trees))
+    × ((HasLedgerOf [] n part d × (d.trees ≡ base))
+    ⊎ (HasLedgerOf [] n (site_by part call) d × makes_by part call base d.trees))
 
 -- Whatever database a crash leaves of a ledger whose call was stopped, it has the ledger still.
 abbrev pub StoppedLedgersStand : State → State → Type 0
@@ -123,7 +123,7 @@ StoppedLedgersStand before after =
     (part : Part) (call : WritingCall) (n : ℕ)
     → IsLive before
     → IsTrue before.is_open
-    → HasLedgerOf n part before.committed
+    → HasLedgerOf [] n part before.committed
     → IsStopped part call before after
     → (found : Database)
     → IsDatabase found
@@ -147,7 +147,7 @@ module _ {D : Type 0} {g : Ghosts D} where
       (part : Part) (call : WritingCall) (n : ℕ)
       → IsLive (file_state before)
       → IsTrue (file_state before).is_open
-      → HasLedgerOf n part (file_state before).committed
+      → HasLedgerOf [] n part (file_state before).committed
       → IsStopped part call (file_state before) (file_state after)
       → IsTrue (view after.store).is_numbered
       → AreDatabases (recovers after.store)
