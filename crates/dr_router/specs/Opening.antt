@@ -1,5 +1,5 @@
 -- Why a ledger in a database isn't opened, and what one that is has in its file.
-use Rattle.std.specs.Prelude.{◌≡◌, ◌<◌, ◌↔◌, ℕ, Bool, IsTrue, Option, None, Some, Result, Ok, Err}
+use Rattle.std.specs.Prelude.{◌≡◌, ◌<◌, ◌↔◌, ℕ, [], Bool, IsTrue, Option, None, Some, Result, Ok, Err}
 use Rattle.sqlite.specs.State.{State, HasCleanDisk}
 use Rattle.sqlite.specs.declared.error.Error.{Error}
 use Rattle.sqlite.specs.declared.error.Error.TheVariants.{SqliteFailure}
@@ -29,6 +29,7 @@ fault_of_database error = unopened.Store
 -- where its database is
 abbrev pub fault_of_opening : OpeningFault → OpenFault
 fault_of_opening opening.OtherSite = unopened.OtherSite
+fault_of_opening (opening.LostPast number) = unopened.Store
 fault_of_opening opening.NoData = unopened.NoData
 fault_of_opening opening.DataIsThere = unopened.DataIsThere
 fault_of_opening opening.InUse = unopened.InUse
@@ -77,6 +78,6 @@ keeping_of making.WantedWithData = keeping.InFile
 abbrev pub HasLedgerIn : {D : Type 0} {g : Ghosts D} → Part → State → LedgerShelf D g → Type 0
 HasLedgerIn part s shelf =
     HasCleanDisk s
-    → ((n : ℕ) × HasLedgerOf n part s.committed)
+    → ((n : ℕ) × HasLedgerOf [] n part s.committed)
     × IsPlacedBy part s.committed.trees shelf
     × HasOwnOn s.committed.trees shelf

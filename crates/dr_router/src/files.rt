@@ -29,6 +29,7 @@ use dr_store_audit::{is_ours, lacking};
 use dr_store_data::{DataFileFault, DataMark, HEAD_SIZE};
 use dr_store_open::{Keeping, OpenedLedger, OpeningFault, on};
 use dr_store_past::NoPast;
+use dr_store_pasts::Unsealed;
 use dr_word_adopt::ShowsFiles;
 use dr_word_check::Disk;
 use dr_word_rehearse::{Finds, LedgerFound};
@@ -237,6 +238,8 @@ fn ledger_fault(fault: OpeningFault) -> OpenFault
 {
     match fault {
         OpeningFault::OtherSite => OpenFault::OtherSite,
+        // No lines leave the tables yet.
+        OpeningFault::LostPast(_) => OpenFault::Store,
         OpeningFault::NoData => OpenFault::NoData,
         OpeningFault::DataIsThere => OpenFault::DataIsThere,
         OpeningFault::InUse => OpenFault::InUse,
@@ -328,7 +331,7 @@ fn keeping_of(making: Making) -> Keeping
 fn stored_ledger<S: Alter>(
     alloc: Global,
     conn: Connection<S>,
-    opened: OpenedLedger<File>,
+    opened: OpenedLedger<File, NoPast>,
     site: Site,
     now: Option<u64>,
 ) -> SqlLedger<S, FileShelf, NoPast>
@@ -341,12 +344,12 @@ fn stored_ledger<S: Alter>(
     ensures conn { result.conn ≡ conn }
     ensures shelf { result.shelf.0 ≡ opened.shelf }
 {
-    let OpenedLedger { shelf, next } = opened;
+    let OpenedLedger { shelf, past, next } = opened;
     SqlLedger::of(
         alloc,
         conn,
         FileShelf(shelf),
-        NoPast::new(alloc),
+        past,
         site,
         next,
         now,
@@ -369,7 +372,7 @@ fn ledger_over<S: Alter + Drop, D: Databases>(
     ensures wanted { IfOk result (λ l. IsBlank (state S.Store conn).now.schema
         → named_on l.shelf.0 ≡ names_in keeping) }
 {
-    match on(conn, alloc, data, keeping, &site) {
+    match on(conn, alloc, data, &Unsealed, keeping, &site) {
         Ok((conn, opened)) => Ok(stored_ledger(alloc, conn, opened, site, now)),
         Err(fault) => Err(ledger_fault(fault)),
     }

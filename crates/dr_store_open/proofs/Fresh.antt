@@ -71,11 +71,11 @@ module _ (part : Part) (mark : List ℕ) where
   own long marked =
       (part.digest ++ mark, record { long = long; marked = marked; sealed = inl refl; is = ap (λ x. part.digest ++ x) (sym (append-nil mark)) }, refl)
 
-  new_ledger_is : length part.digest ≡ 32 → IsMark mark → HasLedgerOf 1 part (record { schema = tables; trees = new_trees part mark })
+  new_ledger_is : length part.digest ≡ 32 → IsMark mark → HasLedgerOf [] 1 part (record { schema = tables; trees = new_trees part mark })
   new_ledger_is long marked = record {
     schema = refl;
     owned = (mark, ([], own long marked));
-    lines = sym (none_has_left mark part (new_trees part mark) (own long marked));
+    counted = none_has_left mark part (new_trees part mark) (own long marked);
     agreed = record {
       next = ap (λ (b : Book). length b.lines + 1) (sym book);
       below = tt;
@@ -100,7 +100,7 @@ pub new_ledgers_are : NewLedgersAreLedgers
 new_ledgers_are part mark long marked = new_ledger_is part mark long marked
 
 pub ledgers_are_one : LedgersAreOne
-ledgers_are_one n m part other db one two =
+ledgers_are_one past n m part other db one two =
     let owner =
     marks_are_one one.owned.0 two.owned.0 part other db.trees one.owned.1 two.owned.1 in
     (one.agreed.next ∙ sym two.agreed.next, owner.0, owner.1)
@@ -120,16 +120,16 @@ no_owner part db node digest behind site long other owned =
 
 pub bad_tables_are_none : BadTablesAreNone
 bad_tables_are_none = record {
-  unowned = λ part db none n is. owned_by_none part db.trees none is.owned;
-  unmarked = λ part db node digest behind site long other n is.
+  unowned = λ past part db none n is. owned_by_none part db.trees none is.owned;
+  unmarked = λ past part db node digest behind site long other n is.
       no_owner part db node digest behind site long other is.owned;
-  sealed = λ part other db mark seal owned some n is.
+  sealed = λ past part other db mark seal owned apart n is.
       let says : (seal_in db.trees).count ≡ (seal_said seal).count =
       ap (λ (s : Seal). s.count) (seals_are_read mark seal other db.trees owned) in
-      let none : (seal_in db.trees).count ≡ 0 = is.lines in
-      omega (arith, says, none, some);
-  renumbered = λ part db note rest all n is.
-      let up : CountUp 1 ((2, note) ∷ rest) = subst (CountUp 1) all is.agreed.hold.numbered in
-      let same : 2 ≡ 1 = up.0 in
+      apart (is.counted ∙ says);
+  renumbered = λ past part db note rest all n is.
+      let up : CountUp (length past + 1) ((length past + 2, note) ∷ rest) =
+      subst (CountUp (length past + 1)) all is.agreed.hold.numbered in
+      let same : length past + 2 ≡ length past + 1 = up.0 in
       omega (arith, same);
 }

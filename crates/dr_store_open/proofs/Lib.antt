@@ -1,4 +1,5 @@
 mod Answered
+mod Behinds
 mod Blank
 mod Chains
 mod Emptied

@@ -24,8 +24,11 @@ use Rattle.dr_store_reads.specs.declared.finding.Print.{Print}
 use Rattle.dr_store_lists.specs.Lists.{keys_of, whole_prints_of}
 use Rattle.dr_store_data.specs.declared.mark.DataMark.{DataMark}
 use Rattle.dr_store_data.specs.Heads.{HasHead, IsMarkOf}
-use Rattle.dr_store_calls.specs.Owners.{IsOwnedBy, IsOwnedWith}
-use Rattle.dr_store_calls.specs.Calling.{IsKept, IsLedgerOf}
+use Rattle.dr_store_sealed.specs.declared.seal.Seal.{Seal}
+use Rattle.dr_store_past.specs.declared.past.LedgerPast.{Ghosts as PastGhosts}
+use Rattle.dr_store_pasts.specs.Opened.{IsOpened}
+use Rattle.dr_store_calls.specs.Owners.{IsOwnedBy, IsOwnedWith, seal_in}
+use Rattle.dr_store.specs.Pasts.{past_of}
 use Rattle.dr_store.specs.Owning.{HaveOwn}
 use Rattle.dr_store_audit.specs.Older.{IsOlder}
 use Rattle.dr_store_open.specs.declared.data.Keeping.{Keeping}
@@ -37,20 +40,26 @@ use Rattle.dr_store_open.specs.declared.fault.OpeningFault.{OpeningFault}
 use Rattle.dr_store_open.specs.declared.fault.OpeningFault.TheVariants as opening
 use Rattle.dr_store_open.specs.declared.finding.FoundTables.{FoundTables}
 use Rattle.dr_store_open.specs.DataSets.{AreListed, AreOwnUnder, IsOwn}
-use Rattle.dr_store_open.specs.Faults.{IsOfData}
+use Rattle.dr_store_open.specs.Faults.{IsOfData, IsOfFiles}
 use Rattle.dr_store_open.specs.Places.{HasOwnOn, HasSomeHead, IsAt, IsBegun, IsFileWith, IsPlaceOf, IsPlacedBy, ShowsFile, names_in, seen_on}
 use Rattle.dr_store_open.specs.Renewing.{KeepsRows}
-use Rattle.dr_store_open.specs.Opening.{AreOf, HasLedgerOf, HasNewLedger, IsBlank, LedgersAreTheirSites, IsBroughtOver, IsLedgerFound, IsLedgerOpened, IsNext, IsWhy, IsWhyNot, IsWholeOpened, LeavesOldOrCommitted, ShelvesAreInTheirPlaces, StaysAsFound, StaysReady}
+use Rattle.dr_store_open.specs.declared.finding.Finding.TheVariants as finding
+use Rattle.dr_store_open.specs.Behind.{AreTablesOf, AreTold, IsAsMade, IsLost, IsPastOf, IsSoBehind, IsTrusted, IsWhy, IsWholeOpened, LedgersAreTheirSites}
+use Rattle.dr_store_open.specs.Opening.{AreFoundReady, HasNewLedger, IsBlank, IsBroughtOver, IsLedgerFound, IsWhyNot, LeavesOldOrCommitted, ShelvesAreInTheirPlaces, StaysAsFound, StaysReady}
 use Rattle.dr_store_open.proofs.Blank.{blank_no_older}
 use Rattle.dr_store_open.proofs.Chains.{looks_then}
 use Rattle.dr_store_open.proofs.Shelved.{all_own, all_read, names, names_apart}
-use Rattle.dr_store_open.proofs.Wholly.{as_found, brought_over, new_ledger, places_are_one}
+use Rattle.dr_store_open.proofs.Wholly.{as_found, behind_as, brought_over, ledger_found, new_ledger, places_are_one}
 
 -- ---- whatever was answered
 
 pub if_ok_as : {A E : Type 0} (P Q : A → Type 0) (r : Result A E) → ((x : A) → P x → Q x) → IfOk r P → IfOk r Q
 if_ok_as P Q (Ok x) f h = f x h
 if_ok_as P Q (Err e) f h = tt
+
+pub if_ok_both : {A E : Type 0} (P Q R : A → Type 0) (r : Result A E) → ((x : A) → P x → Q x → R x) → IfOk r P → IfOk r Q → IfOk r R
+if_ok_both P Q R (Ok x) f h k = f x h k
+if_ok_both P Q R (Err e) f h k = tt
 
 pub if_err_as : {A E : Type 0} (P Q : E → Type 0) (r : Result A E) → ((e : E) → P e → Q e) → IfErr r P → IfErr r Q
 if_err_as P Q (Ok x) f h = tt
@@ -80,13 +89,30 @@ in_file part db mark said owned is mine = apart (places_are_one part part db (pu
     apart : put.InFile said ≡ put.InRows → ⊥
     apart e = cc
 
-pub their_sites : LedgersAreTheirSites
-their_sites = record {
-  marked = λ n part db mark said has owned is why. in_file part db.trees mark said owned is (why.0 refl n has).0;
-  own = λ n part db has own why. (why.0 refl n has).1 own;
-  lost = λ n part db has mine why. why.1 tt has.schema mine;
-  there = λ n part db has mine why. why.1 tt has.schema mine;
-  in_use = λ n part db has mine why. why.1 tt has.schema mine;
+-- a fault of the file of data sets is one of a file
+data_is_file : (fault : OpeningFault) → IsOfData fault → IsOfFiles fault
+data_is_file opening.NoData is = tt
+data_is_file opening.DataIsThere is = tt
+data_is_file opening.InUse is = tt
+data_is_file (opening.LostPast number) is = absurd is
+data_is_file opening.OtherSite is = absurd is
+data_is_file opening.Store is = absurd is
+data_is_file opening.Memory is = absurd is
+
+-- what is so behind a past is so where each that may be opened is trusted
+so_of : {P : Type 0} (l : PastGhosts P) (Opens : Seal → P → Type 0) (part : Part) (db : Trees) (So : Type 0)
+    → ((it : P) → IsOpened l (Opens (seal_in db)) it → IsTrusted l part db it) → IsSoBehind l Opens part db So → So
+so_of l Opens part db So trusted (inl so) = so
+so_of l Opens part db So trusted (inr (it, opened, so)) = so (trusted it opened)
+
+pub their_sites : {P : Type 0} (l : PastGhosts P) (Opens : Seal → P → Type 0) → LedgersAreTheirSites l Opens
+their_sites l Opens = record {
+  marked = λ n part db mark said has trusted owned is why. in_file part db.trees mark said owned is (so_of l Opens part db.trees _ trusted (why.other refl) n has).0;
+  own = λ n part db has trusted own why. (so_of l Opens part db.trees _ trusted (why.other refl) n has).1 own;
+  lost = λ n part db has mine why. why.of_data tt has.schema mine;
+  there = λ n part db has mine why. why.of_data tt has.schema mine;
+  in_use = λ n part db has mine why. why.of_data tt has.schema mine;
+  unsealed = λ number part db none why. let some = (why.past number refl).1 in omega (arith, some, none);
 }
 
 -- what a test of the data sets in rows tells
@@ -95,16 +121,16 @@ TestedIn r prints db = MatchResult r (λ it. All (AreOwnUnder db) prints) (λ fa
 
 -- a ledger isn't taken for another's where each data set in its rows is its item's
 pub not_others : {A : Type 0} (part : Part) (db : Trees) (prints : List (Text × Print)) (place : DataPlace) (r : Result A OpeningFault) → prints ≡ map.entries (whole_prints_of db)
-    → ((uid : Text) → is_some (map.get (keys_of db) uid) ≡ is_some (map.get (whole_prints_of db) uid))
     → IsPlaceOf part db place
-    → IfErr r (λ fault. place ≡ put.InRows) → IfErr r (λ fault. IsOfData fault → ⊥)
+    → IfErr r (λ fault. place ≡ put.InRows) → IfErr r (λ fault. IsOfFiles fault → ⊥)
     → (place ≡ put.InRows → TestedIn r prints db)
     → IfErr r (IsWhyNot part db)
-not_others part db prints place (Ok it) are together says rows beside tested = tt
-not_others part db prints place (Err fault) are together says rows beside tested = (
-  λ is. (subst (IsPlaceOf part db) rows says, λ own. tested rows is (all_read db prints are together own)),
-  λ it mine. beside it,
-)
+not_others part db prints place (Ok it) are says rows beside tested = tt
+not_others part db prints place (Err fault) are says rows beside tested = record {
+  other = λ is together. (subst (IsPlaceOf part db) rows says, λ own. tested rows is (all_read db prints are together own));
+  of_data = λ it mine. beside (data_is_file fault it);
+  past = λ number is. beside (subst IsOfFiles (sym is) tt);
+}
 
 -- ---- a file that was made
 
@@ -185,7 +211,7 @@ module _ {D : Type 0} {g : Ghosts D} where
   }
 
   -- a shelf that was opened, of a ledger whose data sets were read again where they are in rows
-  pub opened_own : (place : DataPlace) (shelf : LedgerShelf D g) (db : Trees) (prints : List (Text × Print)) (r : Result (OpenedLedger D g) OpeningFault)
+  pub opened_own : {P : Type 0} (place : DataPlace) (shelf : LedgerShelf D g) (db : Trees) (prints : List (Text × Print)) (r : Result (OpenedLedger D P g) OpeningFault)
       → prints ≡ map.entries (whole_prints_of db)
       → IsAt place shelf
       → HaveOwn (UsesOn shelf) (AreApartIf (named_on shelf)) db
@@ -198,19 +224,26 @@ module _ {D : Type 0} {g : Ghosts D} where
   })
   opened_own place shelf db prints (Err fault) are is cells same tested = tt
 
-  -- ---- a ledger that was found with its shelf
+-- ---- a ledger that was found with its shelf
 
-  pub whole_found : (part : Part) (old mid new : State) (found : FoundTables) (r : Result (OpenedLedger D g) OpeningFault)
-      → IsLedgerOpened part (Ok (Some found)) old mid
+module _ {D P : Type 0} {g : Ghosts D} (l : PastGhosts P) (Opens : Seal → P → Type 0) where
+  pub whole_found : (part : Part) (old mid new : State) (found : FoundTables) (past : P) (r : Result (OpenedLedger D P g) OpeningFault)
+      → AreTold l Opens part (Ok (finding.Tables found past)) old mid
       → StaysReady found.next r mid new
       → IfOk r (λ it. it.next ≡ found.next)
+      → IfOk r (λ it. it.past ≡ past)
       → (HasCleanDisk new → IfOk r (λ it. IsPlacedBy part mid.now.trees it.shelf))
       → (HasCleanDisk new → IfOk r (λ it. HasOwnOn mid.now.trees it.shelf))
       → (HasCleanDisk new → IfErr r (IsWhyNot part mid.now.trees))
-      → IsWholeOpened (Unit {0}) part r old new
-  whole_found part old mid new found (Ok it) f s next placed own why = record {
+      → IsWholeOpened l Opens (Unit {0}) part r old new
+  whole_found part old mid new found past (Ok it) f s next same placed own why = record {
     has = f.has;
-    kept = λ clean. subst (λ n. IsLedgerFound n part old new) (sym next) (is clean);
+    ready = λ clean. subst (λ n. AreFoundReady n part old new) (sym next) (ready clean);
+    past = λ clean. subst (IsPastOf l Opens new.committed.trees) (sym same) (record { opened = (are clean).opened; reach = (are clean).reach });
+    kept = λ clean trusted.
+        let t = subst (IsTrusted l part new.committed.trees) same trusted in
+        subst (λ n. IsLedgerFound (past_of l.all_lines new.committed.trees) n part new) (sym next)
+        (ledger_found (past_of l.all_lines new.committed.trees) found.next part new (ready clean).ready (ready clean).owned ((are clean).counted t) ((are clean).agreed t));
     placed = λ clean. subst (λ (d : Database). IsPlacedBy part d.trees it.shelf) (base clean) (placed clean);
     own = λ clean. subst (λ (d : Database). HasOwnOn d.trees it.shelf) (base clean) (own clean);
     why = λ stood clean. tt;
@@ -220,93 +253,133 @@ module _ {D : Type 0} {g : Ghosts D} where
       early : HasCleanDisk new → HasCleanDisk mid
       early clean = omega (arith, s.looks.clean, clean)
 
-      base : HasCleanDisk new → mid.now ≡ new.committed
-      base clean = (f.kept (early clean)).kept.ready.settled ∙ sym (s.same clean)
+      committed : HasCleanDisk new → mid.committed ≡ new.committed
+      committed clean = sym (s.same clean)
 
-      is : HasCleanDisk new → IsLedgerFound found.next part old new
-      is clean =
-          let was = f.kept (early clean) in
-          let same : mid.committed ≡ new.committed = sym (s.same clean) in
+      base : HasCleanDisk new → mid.now ≡ new.committed
+      base clean = (f.ready (early clean)).ready.settled ∙ committed clean
+
+      ready : HasCleanDisk new → AreFoundReady found.next part old new
+      ready clean =
+          let was = f.ready (early clean) in
           record {
-            kept = record {
-              ready = s.ready clean;
-              ledger = subst (λ (d : Database). IsLedgerOf [] found.next part d.trees) same was.kept.ledger;
-            };
-            owned = subst (λ (d : Database). IsOwnedBy part d.trees) same was.owned;
-            next = subst (λ (d : Database). IsNext found.next d.trees) same was.next;
-            ledger = subst (HasLedgerOf found.next part) same was.ledger;
+            ready = s.ready clean;
+            owned = subst (λ (d : Database). IsOwnedBy part d.trees) (committed clean) was.owned;
             same = s.same clean ∙ was.same;
           }
-  whole_found part old mid new found (Err fault) f s next placed own why = record {
+
+      are : HasCleanDisk new → AreTablesOf l Opens part new.committed.trees found past
+      are clean = subst (λ (d : Database). AreTablesOf l Opens part d.trees found past) (committed clean) (f.are (early clean))
+  whole_found part old mid new found past (Err fault) f s next same placed own why = record {
     has = tt;
+    ready = λ clean. tt;
+    past = λ clean. tt;
     kept = λ clean. tt;
     placed = λ clean. tt;
     own = λ clean. tt;
     why = λ stood clean.
-        let back : mid.now ≡ old.now = (f.kept (early clean)).kept.ready.settled ∙ sym (f.was (early clean)) in
+        let back : mid.now ≡ old.now = (f.ready (early clean)).ready.settled ∙ sym (f.was (early clean)) in
         let w : IsWhyNot part old.now.trees fault = subst (λ (d : Database). IsWhyNot part d.trees fault) back (why clean) in
-        (λ other n has. w.0 other, λ it named mine. w.1 it mine);
+        record {
+          other = λ is. inl (λ n has. w.other is has.agreed.hold.together);
+          of_data = λ it named mine. w.of_data it mine;
+          past = λ number is. absurd (w.past number is);
+        };
     looks = looks_then old mid new f.looks s.looks;
   }
     where
       early : HasCleanDisk new → HasCleanDisk mid
       early clean = omega (arith, s.looks.clean, clean)
 
-  pub whole_none : (part : Part) (old new : State) → IsLedgerOpened part (Ok None) old new
-      → IsWholeOpened {D = D} {g = g} (Unit {0}) part (Err opening.OtherSite) old new
+  pub whole_none : (part : Part) (old new : State) → AreTold l Opens part (Ok finding.OtherSite) old new
+      → IsWholeOpened {D = D} {d = g} l Opens (Unit {0}) part (Err opening.OtherSite) old new
   whole_none part old new f = record {
     has = tt;
+    ready = λ clean. tt;
+    past = λ clean. tt;
     kept = λ clean. tt;
     placed = λ clean. tt;
     own = λ clean. tt;
-    why = λ stood clean. (λ other n has. absurd (f.is_not clean n has), λ it. absurd it);
+    why = λ stood clean. record {
+      other = λ is. behind_as l Opens part old.now.trees _ _ (λ none n has. absurd (none n has)) (f.is_not clean);
+      of_data = λ it. absurd it;
+      past = λ number is. absurd (apart number is);
+    };
     looks = f.looks;
   }
+    where
+      apart : (number : ℕ) → opening.OtherSite ≡ opening.LostPast number → ⊥
+      apart number e = cc
 
-  pub whole_failed : (part : Part) (old new : State) (why : LedgerFault) (fault : OpeningFault) → IsLedgerOpened part (Err why) old new
-      → fault ≢ opening.OtherSite → (IsOfData fault → ⊥)
-      → IsWholeOpened {D = D} {g = g} (Unit {0}) part (Err fault) old new
+  pub whole_lost : (part : Part) (old new : State) (number : ℕ) → AreTold l Opens part (Ok (finding.Lost number)) old new
+      → IsWholeOpened {D = D} {d = g} l Opens (Unit {0}) part (Err (opening.LostPast number)) old new
+  whole_lost part old new number f = record {
+    has = tt;
+    ready = λ clean. tt;
+    past = λ clean. tt;
+    kept = λ clean. tt;
+    placed = λ clean. tt;
+    own = λ clean. tt;
+    why = λ stood clean. record {
+      other = λ is. absurd (apart is);
+      of_data = λ it. absurd it;
+      past = λ k is. let same : number ≡ k = cc in subst (λ n. IsLost n old.now.trees) same (f.lost clean);
+    };
+    looks = f.looks;
+  }
+    where
+      apart : opening.LostPast number ≡ opening.OtherSite → ⊥
+      apart e = cc
+
+  pub whole_failed : (part : Part) (old new : State) (why : LedgerFault) (fault : OpeningFault) → AreTold l Opens part (Err why) old new
+      → fault ≢ opening.OtherSite → (IsOfFiles fault → ⊥)
+      → IsWholeOpened {D = D} {d = g} l Opens (Unit {0}) part (Err fault) old new
   whole_failed part old new why fault f other beside = record {
     has = tt;
+    ready = λ clean. tt;
+    past = λ clean. tt;
     kept = λ clean. tt;
     placed = λ clean. tt;
     own = λ clean. tt;
-    why = λ stood clean. (λ is n has. absurd (other is), λ it. absurd (beside it));
+    why = λ stood clean. record {
+      other = λ is. absurd (other is);
+      of_data = λ it. absurd (beside (data_is_file fault it));
+      past = λ number is. absurd (beside (subst IsOfFiles (sym is) tt));
+    };
     looks = f.looks;
   }
 
-  pub found_kept : (part : Part) (old new : State) (r : Result (OpenedLedger D g) OpeningFault) → IsWholeOpened (Unit {0}) part r old new
-      → IfOk r (λ it. HasCleanDisk new → IsKept [] it.next part new)
-  found_kept part old new (Ok it) w = λ clean. (w.kept clean).kept
-  found_kept part old new (Err fault) w = tt
+  -- what is made of a ledger that was opened
+  abbrev pub IsAsMadeIf : Bool → Keeping → OpenedLedger D P g → Result (OpenedLedger D P g) OpeningFault → Type 0
+  IsAsMadeIf made keeping opened r =
+      MatchResult r (λ it. (it ≡ opened) × (made ≡ true → IsAsMade l keeping it)) (λ fault. (fault ≡ opening.OtherSite) × (made ≡ true))
 
-  pub found_own : (part : Part) (old new : State) (r : Result (OpenedLedger D g) OpeningFault) → IsWholeOpened (Unit {0}) part r old new
-      → IfOk r (λ it. HasCleanDisk new → HasOwnOn new.committed.trees it.shelf)
-  found_own part old new (Ok it) w = w.own
-  found_own part old new (Err fault) w = tt
-
-  pub new_as : (made : Bool) (keeping : Keeping) (opened : OpenedLedger D g) (r : Result (OpenedLedger D g) OpeningFault) → made ≡ true
-      → MatchResult r (λ it. (it ≡ opened) × (it.next ≡ 1) × (named_on it.shelf ≡ names_in keeping)) (λ fault. fault ≡ opening.OtherSite)
-      → MatchResult r (λ it. (it ≡ opened) × (made ≡ true → (it.next ≡ 1) × (named_on it.shelf ≡ names_in keeping))) (λ fault. (fault ≡ opening.OtherSite) × (made ≡ true))
-  new_as made keeping opened (Ok it) was m = (m.0, λ yes. (m.1, m.2))
+  pub new_as : (made : Bool) (keeping : Keeping) (opened : OpenedLedger D P g) (r : Result (OpenedLedger D P g) OpeningFault) → made ≡ true
+      → MatchResult r (λ it. (it ≡ opened) × IsAsMade l keeping it) (λ fault. fault ≡ opening.OtherSite)
+      → IsAsMadeIf made keeping opened r
+  new_as made keeping opened (Ok it) was m = (m.0, λ yes. m.1)
   new_as made keeping opened (Err fault) was m = (m, was)
 
   -- where its tables may have been made just now
-  pub whole_made : (Stood : Type 0) (made : Bool) (keeping : Keeping) (part : Part) (old new : State) (opened : OpenedLedger D g) (r : Result (OpenedLedger D g) OpeningFault)
+  pub whole_made : (Stood : Type 0) (made : Bool) (keeping : Keeping) (part : Part) (old new : State) (opened : OpenedLedger D P g) (r : Result (OpenedLedger D P g) OpeningFault)
       → (Stood → made ≡ false)
-      → IsWholeOpened (Unit {0}) part (Ok opened) old new
-      → MatchResult r (λ it. (it ≡ opened) × (made ≡ true → (it.next ≡ 1) × (named_on it.shelf ≡ names_in keeping))) (λ fault. (fault ≡ opening.OtherSite) × (made ≡ true))
-      → IsWholeOpened Stood part r old new
+      → IsWholeOpened l Opens (Unit {0}) part (Ok opened) old new
+      → IsAsMadeIf made keeping opened r
+      → IsWholeOpened l Opens Stood part r old new
   whole_made Stood made keeping part old new opened (Ok it) stood w m = record {
     has = w.has;
-    kept = λ clean. subst (λ (o : OpenedLedger D g). IsLedgerFound o.next part old new) (sym m.0) (w.kept clean);
-    placed = λ clean. subst (λ (o : OpenedLedger D g). IsPlacedBy part new.committed.trees o.shelf) (sym m.0) (w.placed clean);
-    own = λ clean. subst (λ (o : OpenedLedger D g). HasOwnOn new.committed.trees o.shelf) (sym m.0) (w.own clean);
+    ready = λ clean. subst (λ (o : OpenedLedger D P g). AreFoundReady o.next part old new) (sym m.0) (w.ready clean);
+    past = λ clean. subst (λ (o : OpenedLedger D P g). IsPastOf l Opens new.committed.trees o.past) (sym m.0) (w.past clean);
+    kept = λ clean. subst (λ (o : OpenedLedger D P g). IsTrusted l part new.committed.trees o.past → IsLedgerFound (past_of l.all_lines new.committed.trees) o.next part new) (sym m.0) (w.kept clean);
+    placed = λ clean. subst (λ (o : OpenedLedger D P g). IsPlacedBy part new.committed.trees o.shelf) (sym m.0) (w.placed clean);
+    own = λ clean. subst (λ (o : OpenedLedger D P g). HasOwnOn new.committed.trees o.shelf) (sym m.0) (w.own clean);
     why = λ is clean. tt;
     looks = w.looks;
   }
   whole_made Stood made keeping part old new opened (Err fault) stood w m = record {
     has = tt;
+    ready = λ clean. tt;
+    past = λ clean. tt;
     kept = λ clean. tt;
     placed = λ clean. tt;
     own = λ clean. tt;
@@ -315,25 +388,24 @@ module _ {D : Type 0} {g : Ghosts D} where
   }
 
   pub whole_refused : (Stood : Type 0) (part : Part) (old new : State) (fault : OpeningFault)
-      → IsWholeOpened {D = D} {g = g} (Unit {0}) part (Err fault) old new
-      → IsWholeOpened {D = D} {g = g} Stood part (Err fault) old new
-  whole_refused Stood part old new fault w = record { has = tt; kept = λ clean. tt; placed = λ clean. tt; own = λ clean. tt; why = λ is. w.why tt; looks = w.looks }
+      → IsWholeOpened {D = D} {d = g} l Opens (Unit {0}) part (Err fault) old new
+      → IsWholeOpened {D = D} {d = g} l Opens Stood part (Err fault) old new
+  whole_refused Stood part old new fault w = record { has = tt; ready = λ clean. tt; past = λ clean. tt; kept = λ clean. tt; placed = λ clean. tt; own = λ clean. tt; why = λ is. w.why tt; looks = w.looks }
 
-  pub is_made : (made : Bool) (keeping : Keeping) (opened : OpenedLedger D g) (r : Result (OpenedLedger D g) OpeningFault) → made ≡ true
-      → MatchResult r (λ it. (it ≡ opened) × (made ≡ true → (it.next ≡ 1) × (named_on it.shelf ≡ names_in keeping))) (λ fault. (fault ≡ opening.OtherSite) × (made ≡ true))
-      → IfOk r (λ it. (it.next ≡ 1) × (named_on it.shelf ≡ names_in keeping))
+  pub is_made : (made : Bool) (keeping : Keeping) (opened : OpenedLedger D P g) (r : Result (OpenedLedger D P g) OpeningFault) → made ≡ true
+      → IsAsMadeIf made keeping opened r → IfOk r (IsAsMade l keeping)
   is_made made keeping opened (Ok it) was m = m.1 was
   is_made made keeping opened (Err fault) was m = tt
 
-  pub made_shows : {X : Type 0} (shown : X → List ℕ) (made : Bool) (keeping : Keeping) (disk : Option X) (opened : OpenedLedger D g) (r : Result (OpenedLedger D g) OpeningFault)
+  pub made_shows : {X : Type 0} (shown : X → List ℕ) (made : Bool) (keeping : Keeping) (disk : Option X) (opened : OpenedLedger D P g) (r : Result (OpenedLedger D P g) OpeningFault)
       → IfSome disk (λ d. ShowsFile (shown d) opened.shelf)
-      → MatchResult r (λ it. (it ≡ opened) × (made ≡ true → (it.next ≡ 1) × (named_on it.shelf ≡ names_in keeping))) (λ fault. (fault ≡ opening.OtherSite) × (made ≡ true))
+      → IsAsMadeIf made keeping opened r
       → IfOk r (λ it. IfSome disk (λ d. ShowsFile (shown d) it.shelf))
-  made_shows shown made keeping disk opened (Ok it) shows m = subst (λ (o : OpenedLedger D g). IfSome disk (λ d. ShowsFile (shown d) o.shelf)) (sym m.0) shows
+  made_shows shown made keeping disk opened (Ok it) shows m = subst (λ (o : OpenedLedger D P g). IfSome disk (λ d. ShowsFile (shown d) o.shelf)) (sym m.0) shows
   made_shows shown made keeping disk opened (Err fault) shows m = tt
 
-  pub made_why : (made : Bool) (keeping : Keeping) (opened : OpenedLedger D g) (r : Result (OpenedLedger D g) OpeningFault)
-      → MatchResult r (λ it. (it ≡ opened) × (made ≡ true → (it.next ≡ 1) × (named_on it.shelf ≡ names_in keeping))) (λ fault. (fault ≡ opening.OtherSite) × (made ≡ true))
+  pub made_why : (made : Bool) (keeping : Keeping) (opened : OpenedLedger D P g) (r : Result (OpenedLedger D P g) OpeningFault)
+      → IsAsMadeIf made keeping opened r
       → IfErr r (λ fault. fault ≢ opening.DataIsThere)
   made_why made keeping opened (Ok it) m = tt
   made_why made keeping opened (Err fault) m = λ e. apart (sym m.0 ∙ e)
@@ -341,74 +413,80 @@ module _ {D : Type 0} {g : Ghosts D} where
       apart : opening.OtherSite ≡ opening.DataIsThere → ⊥
       apart e = cc
 
+  -- a past that counts no line is trusted
+  pub none_trusted : (part : Part) (db : Trees) (it : P) → (l.reach it).count ≡ 0 → IsPastOf l Opens db it → IsTrusted l part db it
+  none_trusted part db it none of = λ some. absurd (let same = ap (λ (s : Seal). s.count) of.reach in omega (arith, none, same, some))
+
   -- ---- an opening as a whole: first what was made or brought over, and then what was found
 
   module _ (made : Bool) (part : Part) (old mid new : State) where
-    pub kept_of : (r : Result (OpenedLedger D g) OpeningFault) → IsWholeOpened (made ≡ false) part r mid new
-        → IfOk r (λ it. HasCleanDisk new → IsKept [] it.next part new × IsOwnedBy part new.committed.trees)
-    kept_of (Ok it) w = λ clean. let is = w.kept clean in (is.kept, is.owned)
+    pub kept_of : (r : Result (OpenedLedger D P g) OpeningFault) → IsWholeOpened l Opens (made ≡ false) part r mid new
+        → IfOk r (λ it. HasCleanDisk new → IsTrusted l part new.committed.trees it.past
+        → IsLedgerFound (past_of l.all_lines new.committed.trees) it.next part new)
+    kept_of (Ok it) w = w.kept
     kept_of (Err fault) w = tt
 
-    pub next_of : (r : Result (OpenedLedger D g) OpeningFault) → IsWholeOpened (made ≡ false) part r mid new
-        → IfOk r (λ it. HasCleanDisk new → IsNext it.next new.committed.trees)
-    next_of (Ok it) w = λ clean. (w.kept clean).next
-    next_of (Err fault) w = tt
+    pub owned_of : (r : Result (OpenedLedger D P g) OpeningFault) → IsWholeOpened l Opens (made ≡ false) part r mid new
+        → IfOk r (λ it. HasCleanDisk new → IsOwnedBy part new.committed.trees)
+    owned_of (Ok it) w = λ clean. (w.ready clean).owned
+    owned_of (Err fault) w = tt
 
-    pub is_of : (r : Result (OpenedLedger D g) OpeningFault) → IsWholeOpened (made ≡ false) part r mid new
-        → IfOk r (λ it. HasCleanDisk new → HasLedgerOf it.next part new.committed)
-    is_of (Ok it) w = λ clean. (w.kept clean).ledger
-    is_of (Err fault) w = tt
+    pub its_past : (r : Result (OpenedLedger D P g) OpeningFault) → IsWholeOpened l Opens (made ≡ false) part r mid new
+        → IfOk r (λ it. HasCleanDisk new → IsPastOf l Opens new.committed.trees it.past)
+    its_past (Ok it) w = w.past
+    its_past (Err fault) w = tt
 
-    pub placed_of : (r : Result (OpenedLedger D g) OpeningFault) → IsWholeOpened (made ≡ false) part r mid new
+    pub placed_of : (r : Result (OpenedLedger D P g) OpeningFault) → IsWholeOpened l Opens (made ≡ false) part r mid new
         → IfOk r (λ it. HasCleanDisk new → IsPlacedBy part new.committed.trees it.shelf)
     placed_of (Ok it) w = w.placed
     placed_of (Err fault) w = tt
 
-    pub own_of : (r : Result (OpenedLedger D g) OpeningFault) → IsWholeOpened (made ≡ false) part r mid new
+    pub own_of : (r : Result (OpenedLedger D P g) OpeningFault) → IsWholeOpened l Opens (made ≡ false) part r mid new
         → IfOk r (λ it. HasCleanDisk new → HasOwnOn new.committed.trees it.shelf)
     own_of (Ok it) w = w.own
     own_of (Err fault) w = tt
 
     pub found_of : (made ≡ true → IsBlank old.now.schema)
         → (made ≡ false → (IsBlank old.now.schema → ⊥) × ((IsOlder old.now.schema → ⊥) → StaysAsFound old mid))
-        → (r : Result (OpenedLedger D g) OpeningFault) → IsWholeOpened (made ≡ false) part r mid new
+        → (r : Result (OpenedLedger D P g) OpeningFault) → IsWholeOpened l Opens (made ≡ false) part r mid new
         → IfOk r (λ it. HasCleanDisk new → (IsBlank old.now.schema → ⊥) → (IsOlder old.now.schema → ⊥) → StaysAsFound old new)
     found_of blank stays (Ok it) w = λ clean not_blank not_older. elim (cases_Bool made) [
       | inl was ↦ absurd (not_blank (blank was))
-      | inr stood ↦ as_found it.next part old mid new (w.kept clean) (w.looks.leaves clean) ((stays stood).1 not_older)
+      | inr stood ↦ as_found it.next part old mid new (w.ready clean) (w.looks.leaves clean) ((stays stood).1 not_older)
     ]
     found_of blank stays (Err fault) w = tt
 
     pub older_of : (made ≡ true → IsBlank old.now.schema)
         → (HasCleanDisk mid → LeavesOldOrCommitted old mid)
         → (HasCleanDisk mid → IsOlder old.now.schema → mid.now.schema ≡ tables → KeepsRows old.now mid.committed)
-        → (r : Result (OpenedLedger D g) OpeningFault) → IsWholeOpened (made ≡ false) part r mid new
+        → (r : Result (OpenedLedger D P g) OpeningFault) → IsWholeOpened l Opens (made ≡ false) part r mid new
         → IfOk r (λ it. HasCleanDisk new → IsOlder old.now.schema → IsBroughtOver old new)
     older_of blank leaves keeps (Ok it) w = λ clean older.
         let early : HasCleanDisk mid = omega (arith, w.looks.clean, clean) in
-        brought_over it.next part old mid new (w.kept clean) (w.looks.leaves clean) (leaves early) (keeps early older w.has)
+        brought_over it.next part old mid new (w.ready clean) (w.looks.leaves clean) (leaves early) (keeps early older w.has)
     older_of blank leaves keeps (Err fault) w = tt
 
     pub made_of : (made ≡ false → (IsBlank old.now.schema → ⊥) × ((IsOlder old.now.schema → ⊥) → StaysAsFound old mid))
         → (HasCleanDisk mid → LeavesOldOrCommitted old mid)
-        → (keeping : Keeping) (r : Result (OpenedLedger D g) OpeningFault) → IsWholeOpened (made ≡ false) part r mid new
-        → (made ≡ true → IfOk r (λ it. (it.next ≡ 1) × (named_on it.shelf ≡ names_in keeping)))
+        → (keeping : Keeping) (r : Result (OpenedLedger D P g) OpeningFault) → IsWholeOpened l Opens (made ≡ false) part r mid new
+        → (made ≡ true → IfOk r (IsAsMade l keeping))
         → IfOk r (λ it. HasCleanDisk new → IsBlank old.now.schema → HasNewLedger old new)
     made_of stays leaves keeping (Ok it) w m = λ clean blank. elim (cases_Bool made) [
       | inl was ↦ (
           let early : HasCleanDisk mid = omega (arith, w.looks.clean, clean) in
-          new_ledger it.next part old mid new clean (w.kept clean) (w.looks.leaves clean) (m was).0 (leaves early)
+          let trusted = none_trusted part new.committed.trees it.past (m was).none (w.past clean) in
+          new_ledger (past_of l.all_lines new.committed.trees) it.next part old mid new (w.ready clean) (w.kept clean trusted) (w.looks.leaves clean) (m was).first (leaves early)
           )
       | inr stood ↦ absurd ((stays stood).0 blank)
     ]
     made_of stays leaves keeping (Err fault) w m = tt
 
     pub wanted_of : (made ≡ false → (IsBlank old.now.schema → ⊥) × ((IsOlder old.now.schema → ⊥) → StaysAsFound old mid))
-        → (keeping : Keeping) (r : Result (OpenedLedger D g) OpeningFault)
-        → (made ≡ true → IfOk r (λ it. (it.next ≡ 1) × (named_on it.shelf ≡ names_in keeping)))
+        → (keeping : Keeping) (r : Result (OpenedLedger D P g) OpeningFault)
+        → (made ≡ true → IfOk r (IsAsMade l keeping))
         → IfOk r (λ it. IsBlank old.now.schema → named_on it.shelf ≡ names_in keeping)
     wanted_of stays keeping (Ok it) m = λ blank. elim (cases_Bool made) [
-      | inl was ↦ (m was).1
+      | inl was ↦ (m was).wanted
       | inr stood ↦ absurd ((stays stood).0 blank)
     ]
     wanted_of stays keeping (Err fault) m = tt
@@ -416,26 +494,20 @@ module _ {D : Type 0} {g : Ghosts D} where
     pub begun_of : {X : Type 0} (shown : X → List ℕ) (disk : Option X)
         → (made ≡ false → (IsBlank old.now.schema → ⊥) × ((IsOlder old.now.schema → ⊥) → StaysAsFound old mid))
         → (keeping : Keeping) → (keeping ≡ wanted.InFile → made ≡ true → MatchOption disk ⊥ (λ it. HasSomeHead (shown it)))
-        → (r : Result (OpenedLedger D g) OpeningFault)
-        → (made ≡ true → IfOk r (λ it. (it.next ≡ 1) × (named_on it.shelf ≡ names_in keeping)))
+        → (r : Result (OpenedLedger D P g) OpeningFault)
+        → (made ≡ true → IfOk r (IsAsMade l keeping))
         → IfOk r (λ it. IfSome disk (λ d. ShowsFile (shown d) it.shelf))
         → IfOk r (λ it. IsBlank old.now.schema → keeping ≡ wanted.InFile → HasSomeHead (seen_on it.shelf))
     begun_of shown disk stays keeping begun (Ok it) m shows = λ blank file. elim (cases_Bool made) [
-      | inl was ↦ shown_head shown disk it.shelf ((m was).1 ∙ ap names_in file) (begun file was) shows
+      | inl was ↦ shown_head shown disk it.shelf ((m was).wanted ∙ ap names_in file) (begun file was) shows
       | inr stood ↦ absurd ((stays stood).0 blank)
     ]
     begun_of shown disk stays keeping begun (Err fault) m shows = tt
 
     pub refused_of : (old.now.schema ≡ tables → (made ≡ false) × (mid ≡ old))
-        → (r : Result (OpenedLedger D g) OpeningFault) → IsWholeOpened (made ≡ false) part r mid new
-        → IfErr r (λ fault. HasCleanDisk new → IsWhy part old.now fault)
+        → (r : Result (OpenedLedger D P g) OpeningFault) → IsWholeOpened l Opens (made ≡ false) part r mid new
+        → IfErr r (λ fault. HasCleanDisk new → old.now.schema ≡ tables → IsWhy l Opens part old.now fault)
     refused_of ours (Ok it) w = tt
-    refused_of ours (Err fault) w = λ clean. (
-      λ other n has. (why clean has.schema).0 other n has,
-      λ it named mine. (why clean named).1 it named mine,
-    )
-      where
-        why : HasCleanDisk new → old.now.schema ≡ tables → IsWhy part old.now fault
-        why clean named =
-            let o = ours named in
-            subst (λ (s : State). IsWhy part s.now fault) o.1 (w.why o.0 clean)
+    refused_of ours (Err fault) w = λ clean named.
+        let o = ours named in
+        subst (λ (s : State). IsWhy l Opens part s.now fault) o.1 (w.why o.0 clean)

@@ -30,7 +30,7 @@ use Rattle.dr_store_data.specs.Opened.{BeginApart}
 use Rattle.dr_store_open.specs.declared.fault.OpeningFault.{OpeningFault}
 use Rattle.dr_store_open.specs.declared.fault.OpeningFault.TheVariants as opening
 use Rattle.dr_store_open.specs.DataSets.{AddsExtent, AreListed, AreOwnUnder, IsExtentAt, IsOwn, NamesExtent, IsReadAs, IsSpelled, extents_under}
-use Rattle.dr_store_open.specs.Faults.{IsOfData}
+use Rattle.dr_store_open.specs.Faults.{IsOfFiles}
 
 -- ---- what a test told
 
@@ -43,9 +43,9 @@ as_told Own own (Err fault) false_is says = λ other every. true≢false (sym (s
 
 pub not_other : (own : Bool) (r : Result (Unit {0}) OpeningFault)
     → MatchResult r (λ done. IsTrue own) (λ fault. (own ≡ false) × (fault ≡ opening.OtherSite))
-    → IfErr r (λ fault. IsOfData fault → ⊥)
+    → IfErr r (λ fault. IsOfFiles fault → ⊥)
 not_other own (Ok done) true_is = tt
-not_other own (Err fault) false_is = λ it. subst IsOfData false_is.1 it
+not_other own (Err fault) false_is = λ it. subst IsOfFiles false_is.1 it
 
 -- ---- pieces of lists
 

@@ -54,13 +54,13 @@ stopped_ledgers_stand before after part call n live is_open has stopped found is
           let schema : found.schema ≡ base.schema =
           one_schema found base.schema base.trees same is (live is_open).1 in
           let all : found ≡ base = λ i. record { schema = schema i; trees = same i } in
-          (n, inl (subst (HasLedgerOf n part) (sym all) has, same))
+          (n, inl (subst (HasLedgerOf [] n part) (sym all) has, same))
           )
       | inr made ↦ (
           let it = made.0.1 in
           let schema : found.schema ≡ tables =
           one_schema found tables found.trees (λ i. found.trees) is it.whole.sound in
-          (made.0.0, inr (kept_is_found made.0.0 (site_by part call) found schema (subst (λ (past : List Line). IsLedgerOf past made.0.0 (site_by part call) found.trees) (no_past_of found.trees) it.ledger), made.1))
+          (made.0.0, inr (kept_is_found [] made.0.0 (site_by part call) found schema (subst (λ (past : List Line). IsLedgerOf past made.0.0 (site_by part call) found.trees) (no_past_of found.trees) it.ledger), made.1))
           )
     ])
 

@@ -1,5 +1,5 @@
 -- What comparing says of the tables, and what an opening does.
-use Rattle.std.proofs.Common.{◌≡◌, ◌+◌, ◌<◌, ◌≤◌, ◌⊎◌, ◌∷◌, [], ℕ, List, length, take, drop, Contains, Option, Some, None, Ok, Err, Result, inl, refl, sym, ap, subst, ◌∙◌, IsTrue, arith}
+use Rattle.std.proofs.Common.{◌≡◌, ◌+◌, ◌<◌, ◌≤◌, ◌⊎◌, ◌∷◌, ◌++◌, [], ℕ, List, length, take, drop, Contains, Option, Some, None, Ok, Err, Result, inl, inr, refl, sym, ap, subst, ◌∙◌, IsTrue, arith, length-append}
 use Rattle.std.specs.Prelude.{MatchOption}
 use Rattle.std.specs.Int.{w64, from_le_bytes}
 use Rattle.std.specs.List.{AllByRecursion}
@@ -13,29 +13,35 @@ use Rattle.dr_ledger.specs.declared.fault.LedgerFault.{LedgerFault}
 use Rattle.dr_store_schema.specs.Ledgers.{IsLedger}
 use Rattle.dr_site.specs.Parts.{Part}
 use Rattle.dr_ledger.specs.Books.{Fold, Line, empty_book}
+use Rattle.dr_ledger_past.specs.Pasts.{with_past}
 use Rattle.dr_store_schema.specs.Books.{AreBelow, book_of, lines_of}
 use Rattle.dr_store_schema.specs.Cells.{number_in}
 use Rattle.dr_store_writes.specs.Effects.{IsSiteOf}
 use Rattle.dr_store_reads.specs.Queries.{Asked, HasTables}
+use Rattle.dr_store_changes.specs.Writing.{IsReady}
 use Rattle.dr_store_data.specs.declared.mark.DataMark.{DataMark}
 use Rattle.dr_store_data.specs.Heads.{IsMarkOf}
 use Rattle.dr_store_sealed.specs.declared.seal.Seal.{Seal}
 use Rattle.dr_store_sealed.specs.InTables.{seal_said}
+use Rattle.dr_store_past.specs.declared.past.LedgerPast.{Ghosts}
 use Rattle.dr_store_calls.specs.Owners.{IsMark, IsOwnedBy, IsPlanWith, seal_in}
-use Rattle.dr_store_calls.specs.Calling.{IsKept, IsLedgerOf}
 use Rattle.dr_store_calls.proofs.Owners.{marks_are_one, seals_are_read}
 use Rattle.dr_store_lists.specs.Lists.{IsJournal, line_of, note_in}
 use Rattle.dr_store_lists.specs.declared.listing.JournalRow.{JournalRow}
+use Rattle.dr_store_audit.specs.Begun.{HasBegun}
 use Rattle.dr_store_audit.specs.Found.{HoldTogether}
 use Rattle.dr_store_audit.specs.Journal.{CountUp}
-use Rattle.dr_store_schema.specs.Tables.{tables}
+use Rattle.dr_store_audit.specs.declared.begun.Begun.{Begun}
+use Rattle.dr_store.specs.Pasts.{past_of}
 use Rattle.dr_store_open.specs.declared.data.DataPlace.{DataPlace}
 use Rattle.dr_store_open.specs.declared.data.DataPlace.TheVariants as put
-use Rattle.dr_store_open.specs.declared.finding.FoundTables.{FoundTables}
+use Rattle.dr_store_open.specs.declared.finding.Finding.{Finding}
+use Rattle.dr_store_open.specs.declared.finding.Finding.TheVariants as finding
+use Rattle.dr_store_open.specs.Behind.{AreNone, AreTablesOf, AreTold, IfLost, IfOther, IfTables, IsFinding, IsLost, IsSoBehind}
 use Rattle.dr_store_open.specs.Places.{IsPlaceIn, IsPlaceOf}
 use Rattle.dr_store_open.specs.Renewing.{KeepsRows}
 use Rattle.dr_store_open.proofs.Kept.{found_is_kept}
-use Rattle.dr_store_open.specs.Opening.{AreOf, AreTested, HasLedgerOf, HasNewLedger, HasNoLedgerOf, HaveAllLines, IfFound, IfNotFound, IsAgreed, IsAgreedIf, IsBroughtOver, IsLedgerFound, IsNext, IsLedgerOpened, IsWholeIf, LeavesFile, LeavesOldOrCommitted, OnlyLooks, PlacesAreOne, StaysAsFound}
+use Rattle.dr_store_open.specs.Opening.{AreFoundReady, AreTested, CountsPast, HasNewLedger, HasNoLedgerOf, HasNumbers, IsAgreed, IsBroughtOver, IsLedgerFound, IsNext, IsSaidIf, LeavesFile, LeavesOldOrCommitted, OnlyLooks, PlacesAreOne, StaysAsFound}
 
 -- ---- the lines' numbers
 
@@ -148,111 +154,147 @@ places_are_one part other db (put.InFile said) (put.InFile beside) one two =
 
 -- ---- an opening
 
-pub none_opened : (part : Part) (s : State) → HasNoLedgerOf part s.now
-    → IsLedgerOpened part (Ok None) s s
-none_opened part s none = record { has = tt; is_not = λ clean. none; kept = λ clean. tt; are = λ clean. tt; was = λ clean. tt; looks = record { stays = λ clean is_open. (is_open, refl); leaves = λ clean db left. left; clean = omega arith; idle = λ h. h } }
+module _ {P : Type 0} (g : Ghosts P) (Opens : Seal → P → Type 0) where
+  -- what follows of tables follows where their past is trusted
+  pub behind_as : (part : Part) (db : Trees) (So Other : Type 0) → (So → Other) → IsSoBehind g Opens part db So → IsSoBehind g Opens part db Other
+  behind_as part db So Other says (inl so) = inl (says so)
+  behind_as part db So Other says (inr (it, opened, so)) = inr (it, opened, λ trusted. says (so trusted))
 
-module _ (part : Part) (old new : State) (has : HasTables old.now) (live : IsLive old) (settled : IsTrue old.is_open → old.now ≡ old.committed) where
-  -- what the tables showed, and what of them was tested
-  abbrev pub ShowsAll : Database → Option FoundTables → Type 0
-  ShowsAll db found = AreTested db.trees × IsWholeIf part db.trees found
-
-  pub opened : (r : Result (Option FoundTables) LedgerFault) → Asked HasTables r old new (ShowsAll old.now) → IsLedgerOpened part r old new
-  opened r a = record {
-    has = named r;
-    is_not = λ clean. none clean r a;
-    kept = λ clean. found clean r a;
-    are = λ clean. are clean r a;
-    was = λ clean. was clean r a;
-    looks = record { stays = λ clean is_open. (a.was_open clean is_open, (a.stays clean is_open has).committed); leaves = λ clean db left. a.leaves clean has db left; clean = a.clean; idle = a.idle };
+  pub none_opened : (part : Part) (s : State) → HasNoLedgerOf (past_of g.all_lines s.now.trees) part s.now
+      → AreTold g Opens part (Ok finding.OtherSite) s s
+  none_opened part s none = record {
+    has = tt;
+    ready = λ clean. tt;
+    are = λ clean. tt;
+    was = λ clean. tt;
+    is_not = λ clean. inl none;
+    lost = λ clean. tt;
+    looks = record { stays = λ clean is_open. (is_open, refl); leaves = λ clean db left. left; clean = omega arith; idle = λ h. h };
   }
-    where
-      named : (r : Result (Option FoundTables) LedgerFault) → IfFound r (λ found. HasTables old.now)
-      named (Ok None) = tt
-      named (Ok (Some found)) = has
-      named (Err why) = tt
 
-      none : HasCleanDisk new → (r : Result (Option FoundTables) LedgerFault)
-          → Asked HasTables r old new (ShowsAll old.now)
-          → IfNotFound r (HasNoLedgerOf part old.now)
-      none clean (Ok None) a = λ n is. (a.shown clean has).1 n is.agreed is.owned is.lines
-      none clean (Err why) a = tt
-      none clean (Ok (Some found)) a = tt
+  module _ (part : Part) (old new : State) (has : HasTables old.now) (live : IsLive old) (settled : IsTrue old.is_open → old.now ≡ old.committed) where
+    -- what the tables showed, and what of them was tested
+    abbrev pub ShowsAll : Database → Finding P → Type 0
+    ShowsAll db found = AreTested db.trees × IsFinding g Opens part db.trees found
 
-      -- what was asked is what is committed
-      back : HasCleanDisk new → {A : Type 0} (x : A) (Shows : A → Type 0) → Asked {A = A} HasTables (Ok x) old new Shows → old.now ≡ new.committed
-      back clean x Shows a =
-          let is = a.same clean has in
-          settled (a.was_open clean is.0) ∙ sym (a.stays clean is.0 has).committed
+    pub opened : (r : Result (Finding P) LedgerFault) → Asked HasTables r old new (ShowsAll old.now) → AreTold g Opens part r old new
+    opened r a = record {
+      has = named r;
+      ready = λ clean. ready clean r a;
+      are = λ clean. are clean r a;
+      was = λ clean. was clean r a;
+      is_not = λ clean. none clean r a;
+      lost = λ clean. lost clean r a;
+      looks = record { stays = λ clean is_open. (a.was_open clean is_open, (a.stays clean is_open has).committed); leaves = λ clean db left. a.leaves clean has db left; clean = a.clean; idle = a.idle };
+    }
+      where
+        named : (r : Result (Finding P) LedgerFault) → IfTables r (λ found it. HasTables old.now)
+        named (Ok (finding.Tables found it)) = has
+        named (Ok finding.OtherSite) = tt
+        named (Ok (finding.Lost number)) = tt
+        named (Err why) = tt
 
-      was : HasCleanDisk new → (r : Result (Option FoundTables) LedgerFault) → Asked HasTables r old new (ShowsAll old.now) → IfFound r (λ found. old.now ≡ new.committed)
-      was clean (Ok None) a = tt
-      was clean (Err why) a = tt
-      was clean (Ok (Some found)) a = back clean (Some found) (ShowsAll old.now) a
+        none : HasCleanDisk new → (r : Result (Finding P) LedgerFault) → Asked HasTables r old new (ShowsAll old.now)
+            → IfOther r (IsSoBehind g Opens part old.now.trees (HasNoLedgerOf (past_of g.all_lines old.now.trees) part old.now))
+        none clean (Ok (finding.Tables found it)) a = tt
+        none clean (Ok finding.OtherSite) a =
+            behind_as part old.now.trees (AreNone g part old.now.trees) (HasNoLedgerOf (past_of g.all_lines old.now.trees) part old.now)
+            (λ no n is. no n is.agreed is.owned is.counted) (a.shown clean has).1
+        none clean (Ok (finding.Lost number)) a = tt
+        none clean (Err why) a = tt
 
-      are : HasCleanDisk new → (r : Result (Option FoundTables) LedgerFault) → Asked HasTables r old new (ShowsAll old.now) → IfFound r (AreOf part new.committed.trees)
-      are clean (Ok None) a = tt
-      are clean (Err why) a = tt
-      are clean (Ok (Some found)) a =
-          subst (λ (d : Database). AreOf part d.trees found) (back clean (Some found) (ShowsAll old.now) a) (a.shown clean has).1.0
+        lost : HasCleanDisk new → (r : Result (Finding P) LedgerFault) → Asked HasTables r old new (ShowsAll old.now)
+            → IfLost r (λ number. IsLost number old.now.trees)
+        lost clean (Ok (finding.Tables found it)) a = tt
+        lost clean (Ok finding.OtherSite) a = tt
+        lost clean (Ok (finding.Lost number)) a = (a.shown clean has).1
+        lost clean (Err why) a = tt
 
-      found : HasCleanDisk new → (r : Result (Option FoundTables) LedgerFault) → Asked HasTables r old new (ShowsAll old.now) → IfFound r (λ found. IsLedgerFound found.next part old new)
-      found clean (Ok None) a = tt
-      found clean (Err why) a = tt
-      found clean (Ok (Some it)) a =
-          let n = it.next in
-          let is = a.same clean has in
-          let was_open = a.was_open clean is.0 in
-          let shown = a.shown clean has in
-          let test = shown.0 in
-          let all = shown.1.0.agreed in
-          let mine = owned_at part old.now.trees it.place shown.1.0.place in
-          let committed = (a.stays clean is.0 has).committed in
-          let behind : old.now ≡ new.committed = back clean (Some it) (ShowsAll old.now) a in
-          record {
-            kept = record {
+        -- what was asked is what is committed
+        back : HasCleanDisk new → {A : Type 0} (x : A) (Shows : A → Type 0) → Asked {A = A} HasTables (Ok x) old new Shows → old.now ≡ new.committed
+        back clean x Shows a =
+            let is = a.same clean has in
+            settled (a.was_open clean is.0) ∙ sym (a.stays clean is.0 has).committed
+
+        was : HasCleanDisk new → (r : Result (Finding P) LedgerFault) → Asked HasTables r old new (ShowsAll old.now) → IfTables r (λ found it. old.now ≡ new.committed)
+        was clean (Ok (finding.Tables found it)) a = back clean (finding.Tables found it) (ShowsAll old.now) a
+        was clean (Ok finding.OtherSite) a = tt
+        was clean (Ok (finding.Lost number)) a = tt
+        was clean (Err why) a = tt
+
+        are : HasCleanDisk new → (r : Result (Finding P) LedgerFault) → Asked HasTables r old new (ShowsAll old.now) → IfTables r (AreTablesOf g Opens part new.committed.trees)
+        are clean (Ok (finding.Tables found it)) a =
+            subst (λ (d : Database). AreTablesOf g Opens part d.trees found it) (back clean (finding.Tables found it) (ShowsAll old.now) a) (a.shown clean has).1
+        are clean (Ok finding.OtherSite) a = tt
+        are clean (Ok (finding.Lost number)) a = tt
+        are clean (Err why) a = tt
+
+        ready : HasCleanDisk new → (r : Result (Finding P) LedgerFault) → Asked HasTables r old new (ShowsAll old.now) → IfTables r (λ found it. AreFoundReady found.next part old new)
+        ready clean (Ok (finding.Tables found it)) a =
+            let is = a.same clean has in
+            let was_open = a.was_open clean is.0 in
+            let shown = a.shown clean has in
+            let test = shown.0 in
+            let all = shown.1.are in
+            let behind : old.now ≡ new.committed = back clean (finding.Tables found it) (ShowsAll old.now) a in
+            record {
               ready = record {
                 is_open = is.0;
                 ledger = subst IsLedger (sym is.1) (record { schema = has; sound = (live was_open).0; items = test.items; prints = test.prints; arrivals = test.arrivals; queue = test.queue; counted = test.counted });
                 settled = is.1 ∙ behind;
-                below = subst (λ (d : Database). AreBelow n (d.trees 11)) (sym is.1) all.below;
+                below = subst (λ (d : Database). AreBelow found.next (d.trees 11)) (sym is.1) all.below;
               };
-              ledger = subst (λ (d : Database). IsLedgerOf [] n part d.trees) behind
-                  (found_is_kept n part old.now.trees all mine shown.1.1);
-            };
-            owned = subst (λ (d : Database). IsOwnedBy part d.trees) behind mine;
-            next = subst (λ (d : Database). IsNext n d.trees) behind all.next;
-            ledger = subst (HasLedgerOf n part) behind
-                (record { schema = has; owned = mine; lines = shown.1.1; agreed = all });
-            same = committed;
-          }
+              owned = subst (λ (d : Database). IsOwnedBy part d.trees) behind (owned_at part old.now.trees found.place all.place);
+              same = (a.stays clean is.0 has).committed;
+            }
+        ready clean (Ok finding.OtherSite) a = tt
+        ready clean (Ok (finding.Lost number)) a = tt
+        ready clean (Err why) a = tt
+
+-- tables that stand ready and were compared are a ledger's
+pub ledger_found : (past : List Line) (n : ℕ) (part : Part) (new : State) → IsReady n new → IsOwnedBy part new.committed.trees
+    → CountsPast past new.committed.trees → IsAgreed past n part new.committed.trees → IsLedgerFound past n part new
+ledger_found past n part new ready owned count all = record {
+  kept = record { ready = ready; ledger = found_is_kept past n part new.committed.trees all owned count };
+  next = all.next;
+  ledger = record { schema = ap (λ (d : Database). d.schema) (sym ready.settled) ∙ ready.ledger.schema; owned = owned; counted = count; agreed = all };
+}
+
+-- nothing is in front of no lines
+front_none : (past lines : List Line) → past ++ lines ≡ [] → past ≡ []
+front_none [] lines none = refl
+front_none (line ∷ past) lines none = absurd cc
 
 -- a ledger whose next line is the first has an empty book
-pub no_lines : (n : ℕ) (part : Part) (s : State) → IsKept [] n part s → IsNext n s.committed.trees → n ≡ 1 → book_of s.committed.trees ≡ empty_book
-no_lines n part s kept next first =
-    kept.ledger.journalled.1.fold ∙ ap Fold (no_element (lines_of s.committed.trees) (omega (arith, next, first)))
+pub no_lines : (past : List Line) (n : ℕ) (part : Part) (s : State) → IsLedgerFound past n part s → n ≡ 1 → book_of s.committed.trees ≡ empty_book
+no_lines past n part s found first =
+    let b = book_of s.committed.trees in
+    let next = found.next in
+    let all : past ++ lines_of s.committed.trees ≡ [] = no_element (past ++ lines_of s.committed.trees) (omega (arith, next, first)) in
+    let whole : with_past past b ≡ empty_book = found.kept.ledger.journalled.1.fold ∙ ap Fold all in
+    subst (λ (p : List Line). with_past p b ≡ empty_book) (front_none past (lines_of s.committed.trees) all) whole
   where
     no_element : (lines : List Line) → length lines ≡ 0 → lines ≡ []
     no_element [] none = refl
     no_element (line ∷ lines) none = absurd (omega (arith, none))
 
 -- what was left before is left still, or what is committed
-pub found_left : (n : ℕ) (part : Part) (old mid new : State) → IsLedgerFound n part mid new → ((db : Trees) → new.may_leave db → mid.may_leave db) → LeavesOldOrCommitted old mid → LeavesOldOrCommitted old new
+pub found_left : (n : ℕ) (part : Part) (old mid new : State) → AreFoundReady n part mid new → ((db : Trees) → new.may_leave db → mid.may_leave db) → LeavesOldOrCommitted old mid → LeavesOldOrCommitted old new
 found_left n part old mid new is leaves left = λ db h. let P : Database → Type 0 = λ d. old.may_leave db ⊎ (db ≡ d.trees) in subst P (sym is.same) (left db (leaves db h))
 
 -- tables that were made just now, and found
-pub new_ledger : (n : ℕ) (part : Part) (old mid new : State) → HasCleanDisk new → IsLedgerFound n part mid new → ((db : Trees) → new.may_leave db → mid.may_leave db) → n ≡ 1 → LeavesOldOrCommitted old mid → HasNewLedger old new
-new_ledger n part old mid new clean is leaves first left = record {
-  book = no_lines n part new is.kept is.next first;
+pub new_ledger : (past : List Line) (n : ℕ) (part : Part) (old mid new : State) → AreFoundReady n part mid new → IsLedgerFound past n part new → ((db : Trees) → new.may_leave db → mid.may_leave db) → n ≡ 1 → LeavesOldOrCommitted old mid → HasNewLedger old new
+new_ledger past n part old mid new is found leaves first left = record {
+  book = no_lines past n part new found first;
   leaves = found_left n part old mid new is leaves left;
 }
 
 -- tables that stood in the file, and were found
-pub as_found : (n : ℕ) (part : Part) (old mid new : State) → IsLedgerFound n part mid new → ((db : Trees) → new.may_leave db → mid.may_leave db) → StaysAsFound old mid → StaysAsFound old new
+pub as_found : (n : ℕ) (part : Part) (old mid new : State) → AreFoundReady n part mid new → ((db : Trees) → new.may_leave db → mid.may_leave db) → StaysAsFound old mid → StaysAsFound old new
 as_found n part old mid new is leaves stays = record { committed = is.same ∙ stays.committed; leaves = λ db h. stays.leaves db (leaves db h) }
 
 -- a file from before that was brought over, and found
-pub brought_over : (n : ℕ) (part : Part) (old mid new : State) → IsLedgerFound n part mid new → ((db : Trees) → new.may_leave db → mid.may_leave db) → LeavesOldOrCommitted old mid
+pub brought_over : (n : ℕ) (part : Part) (old mid new : State) → AreFoundReady n part mid new → ((db : Trees) → new.may_leave db → mid.may_leave db) → LeavesOldOrCommitted old mid
     → KeepsRows old.now mid.committed → IsBroughtOver old new
 brought_over n part old mid new is leaves left kept = record {
   keeps = subst (KeepsRows old.now) (sym is.same) kept;

@@ -13,11 +13,13 @@ use Rattle.dr_store_past.specs.declared.past.LedgerPast.{Ghosts}
 use Rattle.dr_store_pasts.specs.declared.fault.PastRefusal.{PastRefusal}
 use Rattle.dr_store_pasts.specs.declared.fault.PastRefusal.TheVariants as refusal
 use Rattle.dr_store_pasts.specs.Opened.{IsOpened}
+use Rattle.dr_store_shelf.specs.Either.{named_on}
 use Rattle.dr_store_data.specs.declared.mark.DataMark.{DataMark}
 use Rattle.dr_store_data.specs.Heads.{IsMarkOf}
 use Rattle.dr_store_schema.specs.Tables.{tables}
 use Rattle.dr_store_calls.specs.Owners.{IsOwnedBy, IsOwnedWith, seal_in}
 use Rattle.dr_store.specs.Pasts.{past_of}
+use Rattle.dr_store_open.specs.declared.data.Keeping.{Keeping}
 use Rattle.dr_store_open.specs.declared.data.OpenedLedger.{OpenedLedger}
 use Rattle.dr_store_open.specs.declared.fault.OpeningFault.{OpeningFault}
 use Rattle.dr_store_open.specs.declared.fault.OpeningFault.TheVariants as opening
@@ -29,7 +31,7 @@ use Rattle.dr_store_open.specs.Faults.{IsOfData}
 use Rattle.dr_store_open.specs.Opening.{AreFoundReady, AreOf, CountsPast, GoesOn, HasLedgerOf}
 use Rattle.dr_store_open.specs.Opening.{HasNoLedgerOf, HasOther, HaveAllLines, IsAgreed}
 use Rattle.dr_store_open.specs.Opening.{IsLedgerFound, OnlyLooks}
-use Rattle.dr_store_open.specs.Places.{HasOwnOn, IsPlacedBy}
+use Rattle.dr_store_open.specs.Places.{HasOwnOn, IsPlacedBy, names_in}
 
 -- what the refusal of a past says of the tables with that seal
 abbrev pub finding_by : {P : Type 0} → Seal → PastRefusal → Result (Finding P) LedgerFault
@@ -152,6 +154,14 @@ module _ {P : Type 0} (g : Ghosts P) (Opens : Seal → P → Type 0) where
       pub own : HasCleanDisk new → IfOk result (λ it. HasOwnOn new.committed.trees it.shelf)
       pub why : Stood → HasCleanDisk new → IfErr result (IsWhy part old.now)
       pub looks : OnlyLooks old new
+
+module _ {D P : Type 0} {d : DiskGhosts D} (g : Ghosts P) where
+  -- it is as it was made: it has no line yet, none has left it, and its data sets are where they
+  -- were wanted
+  pub record IsAsMade (keeping : Keeping) (it : OpenedLedger D P d) : Type 0 where
+    pub first : it.next ≡ 1
+    pub none : (g.reach it.past).count ≡ 0
+    pub wanted : named_on it.shelf ≡ names_in keeping
 
 -- A site's ledger isn't taken for another's, as far as its past is what is shown of it: where its
 -- data sets are in a file, whatever they are; where they are in rows, if each is that of its item.

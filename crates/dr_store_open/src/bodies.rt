@@ -11,7 +11,7 @@ ghost use Rattle.dr_store_reads.specs.Queries.{Asked};
 ghost use Rattle.dr_store_open.specs.declared.data.DataPlace.TheVariants as place;
 ghost use Rattle.dr_store_open.specs.declared.fault.OpeningFault.TheVariants as opening;
 ghost use Rattle.dr_store_open.specs.DataSets.{AreOwnUnder, IsReadAs, IsSpelled};
-ghost use Rattle.dr_store_open.specs.Faults.{IsOfData};
+ghost use Rattle.dr_store_open.specs.Faults.{IsOfFiles};
 ghost use Rattle.dr_store_open.specs.Opening.{Seen, StaysReady};
 
 use crate::data::DataPlace;
@@ -139,7 +139,7 @@ fn test_all<'x, S: Alter>(
         All (AreOwnUnder (state S.Store conn.old).now.trees) found.now.prints.items) (λ fault.
         fault ≡ opening.OtherSite
         → All (AreOwnUnder (state S.Store conn.old).now.trees) found.now.prints.items → ⊥) }
-    ensures of_data { IfErr result (λ fault. IsOfData fault → ⊥) }
+    ensures of_data { IfErr result (λ fault. IsOfFiles fault → ⊥) }
 {
     match test_bodies(conn, alloc, found.prints.as_slice()) {
         Ok(own) => told(own),
@@ -167,7 +167,7 @@ pub fn test_rows<'x, S: Alter>(
         fault ≡ opening.OtherSite
         → All (AreOwnUnder (state S.Store conn.old).now.trees) found.now.prints.items → ⊥) }
     ensures rows { IfErr result (λ fault. found.now.place ≡ place.InRows) }
-    ensures of_data { IfErr result (λ fault. IsOfData fault → ⊥) }
+    ensures of_data { IfErr result (λ fault. IsOfFiles fault → ⊥) }
 {
     match &found.place {
         DataPlace::InRows => test_all(conn, alloc, found),

@@ -23,10 +23,11 @@ pub enum DataPlace {
     InFile(DataMark),
 }
 
-/// A ledger's shelf, and the number of its next line.
+/// A ledger's shelf, its past, and the number of its next line.
 #[derive(Drop)]
-pub struct OpenedLedger<D: Disk> {
+pub struct OpenedLedger<D: Disk, P: Drop> {
     pub shelf: LedgerShelf<D>,
+    pub past: P,
     pub next: u64,
 }
 

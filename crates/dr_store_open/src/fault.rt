@@ -1,10 +1,10 @@
 //! Why a file's ledger isn't opened.
-ghost use Rattle.std.specs.Prelude.{◌≡◌, ◌≢◌, ◌↔◌};
+ghost use Rattle.std.specs.Prelude.{◌≡◌, ◌≢◌, ◌↔◌, ℕ};
 ghost use Rattle.dr_ledger.specs.declared.fault.LedgerFault.TheVariants as ledger;
 ghost use Rattle.dr_store_audit.specs.declared.fault.FindingFault.TheVariants as finding;
 ghost use Rattle.dr_store_data.specs.declared.fault.DataFileFault.TheVariants as file;
 ghost use Rattle.dr_store_open.specs.declared.fault.OpeningFault.TheVariants as opening;
-ghost use Rattle.dr_store_open.specs.Faults.{IsOfData};
+ghost use Rattle.dr_store_open.specs.Faults.{IsOfFiles};
 ghost use Rattle.dr_store_reads.specs.Queries.{IsWantOfMemory};
 
 use dr_ledger::LedgerFault;
@@ -22,6 +22,10 @@ pub enum OpeningFault {
     /// what the journal's lines make.
     #[error("OtherSite")]
     OtherSite,
+    /// Lines have left its tables, and the file of this number, which has the last of them, isn't
+    /// there, is too short, or has other lines.
+    #[error("LostPast {0}")]
+    LostPast(u64),
     /// Its data sets are in a file, and that isn't there, has another mark, or hasn't the extents
     /// that its cells name.
     #[error("NoData")]
@@ -63,7 +67,8 @@ impl<T: Drop> From<AllocFailed<T>> for OpeningFault {
 /// The fault of an opening where a ledger answers this.
 pub fn opening_fault(fault: LedgerFault) -> OpeningFault
     ensures other { result ≢ opening.OtherSite }
-    ensures of_data { IsOfData result → ⊥ }
+    ensures of_data { IsOfFiles result → ⊥ }
+    ensures past { (number : ℕ) → result ≢ opening.LostPast number }
     ensures memory { (result ≡ opening.Memory) ↔ (fault ≡ ledger.Memory) }
 {
     match fault {
@@ -75,7 +80,7 @@ pub fn opening_fault(fault: LedgerFault) -> OpeningFault
 /// The fault of an opening where the database answers this.
 pub fn of_error(error: &SqlError) -> OpeningFault
     ensures other { result ≢ opening.OtherSite }
-    ensures of_data { IsOfData result → ⊥ }
+    ensures of_data { IsOfFiles result → ⊥ }
     ensures memory { (result ≡ opening.Memory) ↔ IsWantOfMemory error.now }
 {
     opening_fault(fault_of(error))
@@ -84,7 +89,7 @@ pub fn of_error(error: &SqlError) -> OpeningFault
 /// The fault of an opening where tables that were found aren't taken.
 pub fn of_finding(fault: FindingFault) -> OpeningFault
     ensures other { (result ≡ opening.OtherSite) ↔ (fault ≡ finding.OtherSite) }
-    ensures of_data { IsOfData result → ⊥ }
+    ensures of_data { IsOfFiles result → ⊥ }
     ensures memory { (result ≡ opening.Memory) ↔ (fault ≡ finding.Memory) }
 {
     match fault {
@@ -99,6 +104,7 @@ pub fn of_making(fault: DataFileFault) -> OpeningFault
     ensures there { (result ≡ opening.DataIsThere) ↔ (fault ≡ file.IsThere) }
     ensures lost { result ≢ opening.NoData }
     ensures in_use { (result ≡ opening.InUse) ↔ (fault ≡ file.InUse) }
+    ensures past { (number : ℕ) → result ≢ opening.LostPast number }
     ensures memory { (result ≡ opening.Memory) ↔ (fault ≡ file.Memory) }
 {
     match fault {
@@ -116,6 +122,7 @@ pub fn of_data(fault: DataFileFault) -> OpeningFault
     ensures there { result ≢ opening.DataIsThere }
     ensures lost { (result ≡ opening.NoData) ↔ (fault ≡ file.Missing) }
     ensures in_use { (result ≡ opening.InUse) ↔ (fault ≡ file.InUse) }
+    ensures past { (number : ℕ) → result ≢ opening.LostPast number }
     ensures memory { (result ≡ opening.Memory) ↔ (fault ≡ file.Memory) }
 {
     match fault {
@@ -130,7 +137,7 @@ pub fn of_data(fault: DataFileFault) -> OpeningFault
 /// A fault of the tables alone.
 pub fn of_tables(fault: OpeningFault) -> OpeningFault
     ensures other { (result ≡ opening.OtherSite) ↔ (fault ≡ opening.OtherSite) }
-    ensures of_data { IsOfData result → ⊥ }
+    ensures of_data { IsOfFiles result → ⊥ }
     ensures memory { (result ≡ opening.Memory) ↔ (fault ≡ opening.Memory) }
 {
     match fault {

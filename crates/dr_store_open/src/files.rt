@@ -21,7 +21,8 @@ use dr_ledger::LedgerFault;
 use dr_site::Site;
 use dr_store::SqlLedger;
 use dr_store_data::DataFile;
-use dr_store_past::LedgerPast;
+use dr_store_past::{LedgerPast, NoPast};
+use dr_store_pasts::Unsealed;
 use dr_store_reads::fault_of;
 use dr_store_shelf::Shelf;
 use sqlite::{Connection, FileFrom, FileStore, Files, Options, Start};
@@ -29,7 +30,7 @@ use sqlite_disk::Disk;
 use std::alloc::Global;
 
 /// The connection to a database in two files, its log and itself, with this site's ledger, as `on`
-/// finds it. Where they hold a database with a ledger's tables, the ledger is that one. Where the
+/// finds it, with all its lines in its tables. Where they hold a database with a ledger's tables, the ledger is that one. Where the
 /// database's file is empty, it is a new one, with its data sets where they are wanted.
 ///
 /// Errors: OtherSite; NoData; DataIsThere; InUse; Store; Memory.
@@ -40,11 +41,11 @@ pub fn open_files<D: Disk + Drop, F: DataFile>(
     data: &F,
     keeping: Keeping,
     site: &Site,
-) -> Result<(Connection<FileStore<D>>, OpenedLedger<F::Disk>), OpeningFault>
+) -> Result<(Connection<FileStore<D>>, OpenedLedger<F::Disk, NoPast>), OpeningFault>
     requires log { IsTrue (D.Disk.is_usable files.log) }
     requires db { IsTrue (D.Disk.is_usable files.db) }
     ensures is { IfOk result (λ it. HasCleanDisk (file_state it.0)
-        → HasLedgerOf it.1.next site.now (file_state it.0).committed) }
+        → HasLedgerOf [] it.1.next site.now (file_state it.0).committed) }
     ensures found { IfOk result (λ it. HasCleanDisk (file_state it.0)
         → (d : Database) → HoldsLedgers (image_of D.Disk files) d
         → (file_state it.0).committed ≡ d) }
@@ -61,7 +62,7 @@ pub fn open_files<D: Disk + Drop, F: DataFile>(
     ensures idle { IfOk result (λ it. it.0.in_transaction ≡ false) }
 {
     match Connection::open_files(alloc, files, options) {
-        Ok(conn) => on(conn, alloc, data, keeping, site),
+        Ok(conn) => on(conn, alloc, data, &Unsealed, keeping, site),
         Err((error, _)) => Err(of_error(&error)),
     }
 }
@@ -79,9 +80,9 @@ pub fn open_path<T: Start, F: DataFile>(
     data: &F,
     keeping: Keeping,
     site: &Site,
-) -> Result<(Connection<FileStore<FileFrom<T>>>, OpenedLedger<F::Disk>), OpeningFault>
+) -> Result<(Connection<FileStore<FileFrom<T>>>, OpenedLedger<F::Disk, NoPast>), OpeningFault>
     ensures is { IfOk result (λ it. HasCleanDisk (file_state it.0)
-        → HasLedgerOf it.1.next site.now (file_state it.0).committed) }
+        → HasLedgerOf [] it.1.next site.now (file_state it.0).committed) }
     ensures found { IfOk result (λ it. HasCleanDisk (file_state it.0)
         → (d : Database) → HoldsLedgers (image_at T.Start) d
         → (file_state it.0).committed ≡ d) }
@@ -98,7 +99,7 @@ pub fn open_path<T: Start, F: DataFile>(
     ensures idle { IfOk result (λ it. it.0.in_transaction ≡ false) }
 {
     match Connection::open_from(rt, path, false, start) {
-        Ok(conn) => on(conn, alloc, data, keeping, site),
+        Ok(conn) => on(conn, alloc, data, &Unsealed, keeping, site),
         Err((error, _)) => Err(of_error(&error)),
     }
 }

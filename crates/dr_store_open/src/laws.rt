@@ -5,12 +5,14 @@ ghost use Rattle.sqlite.specs.Held.{state};
 ghost use Rattle.sqlite.specs.Tree.{Trees};
 ghost use Rattle.dr_store_schema.specs.Tables.{tables};
 ghost use Rattle.dr_site.specs.Parts.{Part};
+ghost use Rattle.dr_store_past.specs.Lines.{past_in};
 ghost use Rattle.dr_store_calls.specs.Calling.{IsSafe};
 ghost use Rattle.dr_store_audit.specs.Older.{IsOlder};
 ghost use Rattle.dr_store_open.specs.Opening.{BadTablesAreNone, HasLedgerOf, IsBlank, LeavesFile};
 ghost use Rattle.dr_store_open.specs.Opening.{LeavesOldOr};
 ghost use Rattle.dr_store_open.specs.Opening.{LeavesOldOrCommitted, LedgersAreOne};
-ghost use Rattle.dr_store_open.specs.Opening.{LedgersAreTheirSites, MarkedTablesHaveTheirFile};
+ghost use Rattle.dr_store_open.specs.Behind.{LedgersAreTheirSites};
+ghost use Rattle.dr_store_open.specs.Opening.{MarkedTablesHaveTheirFile};
 ghost use Rattle.dr_store_open.specs.Opening.{NewLedgersAreLedgers, PlacesAreOne};
 ghost use Rattle.dr_store_open.specs.Opening.{RowsHaveDataSets, ShelvesAreInTheirPlaces};
 ghost use Rattle.dr_store_open.specs.Opening.{StaysAsFound};
@@ -19,7 +21,8 @@ ghost use Rattle.dr_store_open.specs.Stopped.{CallsAreStopped, StoppedLedgersAre
 ghost use Rattle.dr_store_open.specs.Stopped.{StoppedLedgersStand};
 
 use dr_store::SqlLedger;
-use dr_store_past::NoPast;
+use dr_store_past::LedgerPast;
+use dr_store_pasts::OpensPast;
 use dr_store_shelf::Shelf;
 use sqlite::{Alter, Connection, FileStore};
 use sqlite_disk::Disk;
@@ -37,8 +40,8 @@ pub fn a_file_has_one_ledger()
 {}
 
 /// Tables without an owner are no ledger's, nor those in which other bytes than a mark's and a
-/// seal's stand behind the plan's SHA-256, nor those whose seal counts a line, nor those whose
-/// first line isn't numbered 1.
+/// seal's stand behind the plan's SHA-256, nor those whose seal counts another number of lines than
+/// their past has, nor those whose first line has another number than the next one behind it.
 pub fn bad_tables_are_no_ledgers()
     ensures { BadTablesAreNone }
 {}
@@ -65,9 +68,10 @@ pub fn rows_have_data_sets<D: Disk>()
 {}
 
 /// A site's ledger isn't refused as another's for what a data set in a file is, whatever it is, nor
-/// for one in a row that is its item's. One in rows isn't refused for a file of data sets.
-pub fn ledgers_are_their_sites()
-    ensures { LedgersAreTheirSites }
+/// for one in a row that is its item's. One in rows isn't refused for a file of data sets, nor one
+/// with all its lines for a file of its past.
+pub fn ledgers_are_their_sites<O: OpensPast>(pasts: &O)
+    ensures { LedgersAreTheirSites O.Past.LedgerPast (O.opens pasts.now) }
 {}
 
 /// Of a file that has a ledger's tables of today an opening makes nothing, also where it refuses
@@ -144,12 +148,13 @@ pub fn what_was_found_stays<S: Alter>(before: &Connection<S>, after: &Connection
 {}
 
 /// While the medium answers rightly and the store is open, the file of a ledger has a ledger of its
-/// site: also after each of its calls, whatever that answered.
-pub fn a_ledger_has_its_file<S: Alter, B: Shelf>(ledger: &SqlLedger<S, B, NoPast>)
-    ensures { B.Shelf.is_clean ledger.now.shelf
+/// site, with its past: also after each of its calls, whatever that answered.
+pub fn a_ledger_has_its_file<S: Alter, B: Shelf, P: LedgerPast>(ledger: &SqlLedger<S, B, P>)
+    ensures { B.Shelf.is_clean ledger.now.shelf × P.LedgerPast.is_clean ledger.now.past
         → IsSafe (state S.Store ledger.now.conn)
         → ∥ ((n : ℕ)
-        × HasLedgerOf n ledger.now.site (state S.Store ledger.now.conn).committed) ∥₁ }
+        × HasLedgerOf (past_in P.LedgerPast.all_lines (P.LedgerPast.reach ledger.now.past)) n
+        ledger.now.site (state S.Store ledger.now.conn).committed) ∥₁ }
 {}
 
 /// Wherever a call of a ledger stops that writes, its clause on crashes says what is left.

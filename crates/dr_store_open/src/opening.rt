@@ -1,12 +1,12 @@
 //! A file's ledger, opened.
 ghost use Rattle.std.specs.Prelude.{◌≡◌, ◌≤◌, ◌↔◌, IfErr, IfOk, IfSome, MatchOption, MatchResult};
-ghost use Rattle.std.specs.Prelude.{◌≢◌, [], All, IsTrue, OnOk, false, true};
+ghost use Rattle.std.specs.Prelude.{◌≢◌, All, IsTrue, OnOk, false, true};
 ghost use Rattle.sqlite.specs.Held.{state};
 ghost use Rattle.sqlite.specs.State.{HasCleanDisk, IsLive};
 ghost use Rattle.dr_store_schema.specs.Tables.{tables};
 ghost use Rattle.sqlite_trees.specs.View.{doubt};
+ghost use Rattle.dr_store.specs.Pasts.{past_of};
 ghost use Rattle.dr_store_calls.specs.Owners.{IsOwnedBy};
-ghost use Rattle.dr_store_calls.specs.Calling.{IsKept};
 ghost use Rattle.dr_store_audit.specs.Older.{IsOlder};
 ghost use Rattle.dr_store_open.specs.Renewing.{IsMadeBy, IsMadeWith, KeepsRows};
 ghost use Rattle.dr_store_shelf.specs.Either.{named_on};
@@ -14,13 +14,13 @@ ghost use Rattle.dr_store_changes.specs.Writing.{IsReady};
 ghost use Rattle.dr_store_open.specs.declared.data.DataPlace.TheVariants as place;
 ghost use Rattle.dr_store_open.specs.declared.data.Keeping.TheVariants as wanted;
 ghost use Rattle.dr_store_open.specs.declared.fault.OpeningFault.TheVariants as opening;
+ghost use Rattle.dr_store_open.specs.Behind.{AreTold, IsAsMade, IsPastOf, IsTrusted, IsWhy};
+ghost use Rattle.dr_store_open.specs.Behind.{IsWholeOpened};
 ghost use Rattle.dr_store_open.specs.DataSets.{AreOwnUnder};
-ghost use Rattle.dr_store_open.specs.Opening.{AreOf, HasLedgerOf, HasNewLedger, IsBlank};
-ghost use Rattle.dr_store_open.specs.Opening.{IsBroughtOver, IsLedgerOpened, IsNext, IsWhy};
-ghost use Rattle.dr_store_open.specs.Opening.{IsWhyNot, IsWholeOpened, LeavesFile};
-ghost use Rattle.dr_store_open.specs.Opening.{LeavesOldOr, LeavesOldOrCommitted};
-ghost use Rattle.dr_store_open.specs.Opening.{StaysAsFound, StaysReady};
-ghost use Rattle.dr_store_open.specs.Faults.{IsOfData};
+ghost use Rattle.dr_store_open.specs.Opening.{AreOf, HasNewLedger, IsBlank, IsBroughtOver};
+ghost use Rattle.dr_store_open.specs.Opening.{IsLedgerFound, IsWhyNot, LeavesFile, LeavesOldOr};
+ghost use Rattle.dr_store_open.specs.Opening.{LeavesOldOrCommitted, StaysAsFound, StaysReady};
+ghost use Rattle.dr_store_open.specs.Faults.{IsOfFiles};
 ghost use Rattle.dr_store_open.specs.Places.{HasOwnOn, HasSomeHead, IsPlacedBy, ShowsFile};
 ghost use Rattle.dr_store_open.specs.Places.{names_in, seen_on};
 
@@ -28,7 +28,7 @@ use crate::beside::new_data;
 use crate::bodies::test_rows;
 use crate::data::{Keeping, OpenedLedger, is_wanted};
 use crate::fault::{OpeningFault, of_tables, opening_fault};
-use crate::finding::{FoundTables, find_owned};
+use crate::finding::{Finding, FoundTables, find_owned};
 use crate::making::make;
 use crate::renewing::renew_older;
 use crate::shelving::shelf_of;
@@ -37,6 +37,8 @@ use dr_ledger::LedgerFault;
 use dr_site::Site;
 use dr_store_audit::is_ours;
 use dr_store_data::{DataFile, LedgerShelf};
+use dr_store_past::LedgerPast;
+use dr_store_pasts::OpensPast;
 use sqlite::{Alter, Connection};
 use sqlite_disk::Disk;
 use sqlite_schema::schema::Schema;
@@ -55,59 +57,67 @@ fn is_blank(schema: &Schema) -> bool
     schema.views.is_empty()
 }
 
-/// What the tables have, if they are those of a ledger of this site.
-fn find_tested<S: Alter>(
+/// What the tables have, and their past, if they are those of a ledger of this site.
+fn find_tested<S: Alter, O: OpensPast>(
     conn: &mut Connection<S>,
     alloc: Global,
+    pasts: &O,
     site: &Site,
-) -> Result<Option<FoundTables>, LedgerFault>
+) -> Result<Finding<O::Past>, LedgerFault>
     requires schema { (state S.Store conn.old).now.schema ≡ tables }
     requires live { IsLive (state S.Store conn.old) }
     requires settled { IsTrue (state S.Store conn.old).is_open
         → (state S.Store conn.old).now ≡ (state S.Store conn.old).committed }
-    ensures { IsLedgerOpened site.now result (state S.Store conn.old) (state S.Store conn.new) }
+    ensures { AreTold O.Past.LedgerPast (O.opens pasts.now) site.now result
+        (state S.Store conn.old) (state S.Store conn.new) }
 {
     match test_tables(conn, alloc) {
-        Ok(()) => find_owned(conn, alloc, site),
+        Ok(()) => find_owned(conn, alloc, pasts, site),
         Err(fault) => Err(fault),
     }
 }
 
-/// What the tables have, if the file has those of a ledger of this site: its tables are just a
-/// ledger's, the node and the plan are the site's, no line has left them, and all rows are what the
-/// journal's lines make, which are a history of that ledger. Its data sets aren't looked at.
+/// What the tables have, and their past, if the file has those of a ledger of this site: its tables
+/// are just a ledger's, the node and the plan are the site's, the past is opened up to their seal,
+/// and all rows are what its lines and then the journal's make, which are a history of that ledger.
+/// Its data sets aren't looked at.
 ///
 /// Errors: Store, Memory.
-pub fn find<S: Alter>(
+pub fn find<S: Alter, O: OpensPast>(
     conn: &mut Connection<S>,
     alloc: Global,
+    pasts: &O,
     site: &Site,
-) -> Result<Option<FoundTables>, LedgerFault>
+) -> Result<Finding<O::Past>, LedgerFault>
     requires { conn.old.in_transaction ≡ false }
-    ensures { IsLedgerOpened site.now result (state S.Store conn.old) (state S.Store conn.new) }
+    ensures { AreTold O.Past.LedgerPast (O.opens pasts.now) site.now result
+        (state S.Store conn.old) (state S.Store conn.new) }
 {
     if !is_ours(conn.schema()) {
-        return Ok(None);
+        return Ok(Finding::OtherSite);
     }
     if !conn.is_autocommit() {
-        return Ok(None);
+        return Ok(Finding::OtherSite);
     }
-    find_tested(conn, alloc, site)
+    find_tested(conn, alloc, pasts, site)
 }
 
 /// A ledger whose tables were found, with the shelf that was opened for it. Where data sets are in
-/// rows, each that is there is that of its instance. The shelf is handed on as it was opened.
-fn open_on<S: Alter, D: Disk + Drop>(
+/// rows, each that is there is that of its instance. Shelf and past are handed on as they were
+/// opened.
+fn open_on<S: Alter, D: Disk + Drop, P: Drop>(
     conn: &mut Connection<S>,
     alloc: Global,
     shelf: LedgerShelf<D>,
     found: FoundTables,
-) -> Result<OpenedLedger<D>, OpeningFault>
+    past: P,
+) -> Result<OpenedLedger<D, P>, OpeningFault>
     requires { HasCleanDisk (state S.Store conn.old)
         → IsReady found.next (state S.Store conn.old) }
     ensures ready { StaysReady found.next result (state S.Store conn.old) (state S.Store conn.new) }
     ensures next { IfOk result (λ it. it.next ≡ found.next) }
     ensures same { IfOk result (λ it. it.shelf ≡ shelf) }
+    ensures past { IfOk result (λ it. it.past ≡ past) }
     ensures own { HasCleanDisk (state S.Store conn.new)
         → found.place ≡ place.InRows
         → MatchResult result (λ it.
@@ -115,36 +125,40 @@ fn open_on<S: Alter, D: Disk + Drop>(
         fault ≡ opening.OtherSite
         → All (AreOwnUnder (state S.Store conn.old).now.trees) found.prints.items → ⊥) }
     ensures rows { IfErr result (λ fault. found.place ≡ place.InRows) }
-    ensures of_data { IfErr result (λ fault. IsOfData fault → ⊥) }
+    ensures of_data { IfErr result (λ fault. IsOfFiles fault → ⊥) }
 {
     match test_rows(conn, alloc, &found) {
         Ok(()) => Ok(OpenedLedger {
             shelf,
+            past,
             next: found.next,
         }),
         Err(fault) => {
             drop(shelf);
+            drop(past);
             Err(fault)
         }
     }
 }
 
-/// A ledger whose tables were found, with its shelf, which is opened where they say. The file that
-/// was made for it, if one was, is its own.
-fn open_found<S: Alter, F: DataFile>(
+/// A ledger whose tables were found with this past, with its shelf, which is opened where they say.
+/// The file that was made for it, if one was, is its own.
+fn open_found<S: Alter, F: DataFile, P: Drop>(
     conn: &mut Connection<S>,
     alloc: Global,
     data: &F,
     made: Option<F::Disk>,
     site: &Site,
     found: FoundTables,
-) -> Result<OpenedLedger<F::Disk>, OpeningFault>
+    past: P,
+) -> Result<OpenedLedger<F::Disk, P>, OpeningFault>
     requires ready { HasCleanDisk (state S.Store conn.old)
         → IsReady found.next (state S.Store conn.old) }
     requires are { HasCleanDisk (state S.Store conn.old)
         → AreOf site.now (state S.Store conn.old).now.trees found }
     ensures ready { StaysReady found.next result (state S.Store conn.old) (state S.Store conn.new) }
     ensures next { IfOk result (λ it. it.next ≡ found.next) }
+    ensures past { IfOk result (λ it. it.past ≡ past) }
     ensures placed { HasCleanDisk (state S.Store conn.new)
         → IfOk result (λ it. IsPlacedBy site.now (state S.Store conn.old).now.trees it.shelf) }
     ensures own { HasCleanDisk (state S.Store conn.new)
@@ -156,7 +170,7 @@ fn open_found<S: Alter, F: DataFile>(
     ensures there { IfErr result (λ fault. fault ≢ opening.DataIsThere) }
 {
     match shelf_of(conn, alloc, data, made, &found) {
-        Ok(shelf) => open_on(conn, alloc, shelf, found),
+        Ok(shelf) => open_on(conn, alloc, shelf, found, past),
         Err(fault) => Err(fault),
     }
 }
@@ -169,28 +183,28 @@ fn open_found<S: Alter, F: DataFile>(
 /// Errors: OtherSite, never where the file has a ledger of this site with its data sets in a file,
 /// whatever they are, nor where they are in rows and each is its item's; NoData and InUse, never
 /// where its data sets are in its rows; Store; Memory.
-pub fn find_ledger<S: Alter, F: DataFile>(
+pub fn find_ledger<S: Alter, F: DataFile, O: OpensPast>(
     conn: &mut Connection<S>,
     alloc: Global,
     data: &F,
+    pasts: &O,
     made: Option<F::Disk>,
     site: &Site,
-) -> Result<OpenedLedger<F::Disk>, OpeningFault>
+) -> Result<OpenedLedger<F::Disk, O::Past>, OpeningFault>
     requires { conn.old.in_transaction ≡ false }
-    ensures whole { IsWholeOpened (Unit {0}) site.now result (state S.Store conn.old)
-        (state S.Store conn.new) }
-    ensures kept { IfOk result (λ it. HasCleanDisk (state S.Store conn.new)
-        → IsKept [] it.next site.now (state S.Store conn.new)) }
-    ensures own { IfOk result (λ it. HasCleanDisk (state S.Store conn.new)
-        → HasOwnOn (state S.Store conn.new).committed.trees it.shelf) }
+    ensures whole { IsWholeOpened O.Past.LedgerPast (O.opens pasts.now) (Unit {0}) site.now result
+        (state S.Store conn.old) (state S.Store conn.new) }
     ensures shows { IfOk result (λ it.
         IfSome made (λ disk. ShowsFile (F.Disk.Disk.seen disk) it.shelf)) }
     ensures idle { conn.new.in_transaction ≡ false }
     ensures there { IfErr result (λ fault. fault ≢ opening.DataIsThere) }
 {
-    match find(conn, alloc, site) {
-        Ok(Some(found)) => open_found(conn, alloc, data, made, site, found),
-        Ok(None) => Err(OpeningFault::OtherSite),
+    match find(conn, alloc, pasts, site) {
+        Ok(Finding::Tables(found, past)) => {
+            open_found(conn, alloc, data, made, site, found, past)
+        }
+        Ok(Finding::OtherSite) => Err(OpeningFault::OtherSite),
+        Ok(Finding::Lost(number)) => Err(OpeningFault::LostPast(number)),
         Err(fault) => Err(opening_fault(fault)),
     }
 }
@@ -213,7 +227,7 @@ fn make_with<S: Alter, D: Drop>(
     ensures crash { HasCleanDisk (state S.Store conn.new)
         → LeavesOldOr (IsMadeWith beside.1.items site.now) (state S.Store conn.old)
         (state S.Store conn.new) }
-    ensures of_data { IfErr result (λ fault. IsOfData fault → ⊥) }
+    ensures of_data { IfErr result (λ fault. IsOfFiles fault → ⊥) }
 {
     let (disk, mark) = beside;
     match make(conn, alloc, site, &mark) {
@@ -277,7 +291,7 @@ fn renewed<S: Alter, D: Drop>(
         → LeavesFile site.now (state S.Store conn.old) (state S.Store conn.new) }
     ensures ours { (state S.Store conn.old).now.schema ≡ tables
         → IfErr result (λ fault. ⊥) × (conn.new ≡ conn.old) }
-    ensures of_data { IfErr result (λ fault. IsOfData fault → ⊥) }
+    ensures of_data { IfErr result (λ fault. IsOfFiles fault → ⊥) }
 {
     match renew_older(conn, alloc, site) {
         Ok(()) => Ok((false, None)),
@@ -326,17 +340,20 @@ fn prepare<S: Alter, F: DataFile>(
     renewed(conn, alloc, site)
 }
 
-/// A ledger whose tables were made just now, where it has no line yet, and its data sets are where
-/// they were wanted.
-fn as_new<D: Disk + Drop>(
+/// A ledger whose tables were made just now, where it has no line yet, none that has left them, and
+/// its data sets are where they were wanted.
+fn as_new<D: Disk + Drop, P: LedgerPast + Drop>(
     keeping: Keeping,
-    opened: OpenedLedger<D>,
-) -> Result<OpenedLedger<D>, OpeningFault>
+    opened: OpenedLedger<D, P>,
+) -> Result<OpenedLedger<D, P>, OpeningFault>
     ensures { MatchResult result
-        (λ it. (it ≡ opened) × (it.next ≡ 1) × (named_on it.shelf ≡ names_in keeping))
+        (λ it. (it ≡ opened) × IsAsMade P.LedgerPast keeping it)
         (λ fault. fault ≡ opening.OtherSite) }
 {
     if opened.next != 1 {
+        return Err(OpeningFault::OtherSite);
+    }
+    if opened.past.seal().count != 0 {
         return Err(OpeningFault::OtherSite);
     }
     if !is_wanted(keeping, &opened.shelf) {
@@ -346,13 +363,13 @@ fn as_new<D: Disk + Drop>(
 }
 
 /// A ledger that was opened, where it is as it was made, if its tables were made just now.
-fn as_made<D: Disk + Drop>(
+fn as_made<D: Disk + Drop, P: LedgerPast + Drop>(
     made: bool,
     keeping: Keeping,
-    opened: OpenedLedger<D>,
-) -> Result<OpenedLedger<D>, OpeningFault>
-    ensures { MatchResult result (λ it. (it ≡ opened)
-        × (made ≡ true → (it.next ≡ 1) × (named_on it.shelf ≡ names_in keeping)))
+    opened: OpenedLedger<D, P>,
+) -> Result<OpenedLedger<D, P>, OpeningFault>
+    ensures { MatchResult result
+        (λ it. (it ≡ opened) × (made ≡ true → IsAsMade P.LedgerPast keeping it))
         (λ fault. (fault ≡ opening.OtherSite) × (made ≡ true)) }
 {
     if made {
@@ -363,25 +380,25 @@ fn as_made<D: Disk + Drop>(
 
 /// This site's ledger in a file whose tables are made, and whose file of data sets is this one, if
 /// it was made just now.
-fn open_made<S: Alter, F: DataFile>(
+fn open_made<S: Alter, F: DataFile, O: OpensPast>(
     conn: &mut Connection<S>,
     alloc: Global,
     data: &F,
+    pasts: &O,
     keeping: Keeping,
     site: &Site,
     made: (bool, Option<F::Disk>),
-) -> Result<OpenedLedger<F::Disk>, OpeningFault>
+) -> Result<OpenedLedger<F::Disk, O::Past>, OpeningFault>
     requires { conn.old.in_transaction ≡ false }
-    ensures whole { IsWholeOpened (made.0 ≡ false) site.now result (state S.Store conn.old)
-        (state S.Store conn.new) }
-    ensures made { made.0 ≡ true
-        → IfOk result (λ it. (it.next ≡ 1) × (named_on it.shelf ≡ names_in keeping)) }
+    ensures whole { IsWholeOpened O.Past.LedgerPast (O.opens pasts.now) (made.0 ≡ false) site.now
+        result (state S.Store conn.old) (state S.Store conn.new) }
+    ensures made { made.0 ≡ true → IfOk result (IsAsMade O.Past.LedgerPast keeping) }
     ensures shows { IfOk result (λ it.
         IfSome made.1 (λ disk. ShowsFile (F.Disk.Disk.seen disk) it.shelf)) }
     ensures there { IfErr result (λ fault. fault ≢ opening.DataIsThere) }
 {
     let (is_new, disk) = made;
-    match find_ledger(conn, alloc, data, disk, site) {
+    match find_ledger(conn, alloc, data, pasts, disk, site) {
         Ok(opened) => as_made(is_new, keeping, opened),
         Err(fault) => Err(fault),
     }
@@ -400,19 +417,24 @@ fn open_made<S: Alter, F: DataFile>(
 /// data sets are in a file, whatever they are, or in rows, and each is its item's; NoData and
 /// InUse, never where such a ledger's data sets are in its rows; DataIsThere, only where a new
 /// ledger is wanted with its data sets in a file; Store; Memory.
-pub fn open<S: Alter, F: DataFile>(
+pub fn open<S: Alter, F: DataFile, O: OpensPast>(
     conn: &mut Connection<S>,
     alloc: Global,
     data: &F,
+    pasts: &O,
     keeping: Keeping,
     site: &Site,
-) -> Result<OpenedLedger<F::Disk>, OpeningFault>
+) -> Result<OpenedLedger<F::Disk, O::Past>, OpeningFault>
     requires { conn.old.in_transaction ≡ false }
     ensures kept { IfOk result (λ it. HasCleanDisk (state S.Store conn.new)
-        → IsKept [] it.next site.now (state S.Store conn.new)
-        × IsOwnedBy site.now (state S.Store conn.new).committed.trees) }
-    ensures next { IfOk result (λ it. HasCleanDisk (state S.Store conn.new)
-        → IsNext it.next (state S.Store conn.new).committed.trees) }
+        → IsTrusted O.Past.LedgerPast site.now (state S.Store conn.new).committed.trees it.past
+        → IsLedgerFound (past_of O.Past.LedgerPast.all_lines
+        (state S.Store conn.new).committed.trees) it.next site.now (state S.Store conn.new)) }
+    ensures owned { IfOk result (λ it. HasCleanDisk (state S.Store conn.new)
+        → IsOwnedBy site.now (state S.Store conn.new).committed.trees) }
+    ensures past { IfOk result (λ it. HasCleanDisk (state S.Store conn.new)
+        → IsPastOf O.Past.LedgerPast (O.opens pasts.now)
+        (state S.Store conn.new).committed.trees it.past) }
     ensures placed { IfOk result (λ it. HasCleanDisk (state S.Store conn.new)
         → IsPlacedBy site.now (state S.Store conn.new).committed.trees it.shelf) }
     ensures own { IfOk result (λ it. HasCleanDisk (state S.Store conn.new)
@@ -435,17 +457,17 @@ pub fn open<S: Alter, F: DataFile>(
     ensures file { HasCleanDisk (state S.Store conn.new)
         → LeavesFile site.now (state S.Store conn.old) (state S.Store conn.new) }
     ensures refused { IfErr result (λ fault. HasCleanDisk (state S.Store conn.new)
-        → IsWhy site.now (state S.Store conn.old).now fault) }
+        → (state S.Store conn.old).now.schema ≡ tables
+        → IsWhy O.Past.LedgerPast (O.opens pasts.now) site.now (state S.Store conn.old).now
+        fault) }
     ensures there { IfErr result (λ fault. fault ≡ opening.DataIsThere
         → (keeping ≡ wanted.InFile) × IsBlank (state S.Store conn.old).now.schema) }
-    ensures is { IfOk result (λ it. HasCleanDisk (state S.Store conn.new)
-        → HasLedgerOf it.next site.now (state S.Store conn.new).committed) }
     ensures idle { conn.new.in_transaction ≡ false }
     ensures clean { doubt (state S.Store conn.old).is_clean
         ≤ doubt (state S.Store conn.new).is_clean }
 {
     match prepare(conn, alloc, data, keeping, site) {
-        Ok(made) => open_made(conn, alloc, data, keeping, site, made),
+        Ok(made) => open_made(conn, alloc, data, pasts, keeping, site, made),
         Err(fault) => Err(fault),
     }
 }
@@ -454,19 +476,24 @@ pub fn open<S: Alter, F: DataFile>(
 /// as `open` finds them. A refusal closes the connection and gives nothing back.
 ///
 /// Errors: OtherSite; NoData; DataIsThere; InUse; Store; Memory.
-pub fn on<S: Alter + Drop, F: DataFile>(
+pub fn on<S: Alter + Drop, F: DataFile, O: OpensPast>(
     conn: Connection<S>,
     alloc: Global,
     data: &F,
+    pasts: &O,
     keeping: Keeping,
     site: &Site,
-) -> Result<(Connection<S>, OpenedLedger<F::Disk>), OpeningFault>
+) -> Result<(Connection<S>, OpenedLedger<F::Disk, O::Past>), OpeningFault>
     requires { conn.in_transaction ≡ false }
     ensures kept { IfOk result (λ it. HasCleanDisk (state S.Store it.0)
-        → IsKept [] it.1.next site.now (state S.Store it.0)
-        × IsOwnedBy site.now (state S.Store it.0).committed.trees) }
-    ensures next { IfOk result (λ it. HasCleanDisk (state S.Store it.0)
-        → IsNext it.1.next (state S.Store it.0).committed.trees) }
+        → IsTrusted O.Past.LedgerPast site.now (state S.Store it.0).committed.trees it.1.past
+        → IsLedgerFound (past_of O.Past.LedgerPast.all_lines (state S.Store it.0).committed.trees)
+        it.1.next site.now (state S.Store it.0)) }
+    ensures owned { IfOk result (λ it. HasCleanDisk (state S.Store it.0)
+        → IsOwnedBy site.now (state S.Store it.0).committed.trees) }
+    ensures past { IfOk result (λ it. HasCleanDisk (state S.Store it.0)
+        → IsPastOf O.Past.LedgerPast (O.opens pasts.now) (state S.Store it.0).committed.trees
+        it.1.past) }
     ensures placed { IfOk result (λ it. HasCleanDisk (state S.Store it.0)
         → IsPlacedBy site.now (state S.Store it.0).committed.trees it.1.shelf) }
     ensures own { IfOk result (λ it. HasCleanDisk (state S.Store it.0)
@@ -488,14 +515,12 @@ pub fn on<S: Alter + Drop, F: DataFile>(
         → HasSomeHead (seen_on it.1.shelf)) }
     ensures there { IfErr result (λ fault. fault ≡ opening.DataIsThere
         → (keeping ≡ wanted.InFile) × IsBlank (state S.Store conn).now.schema) }
-    ensures is { IfOk result (λ it. HasCleanDisk (state S.Store it.0)
-        → HasLedgerOf it.1.next site.now (state S.Store it.0).committed) }
     ensures idle { IfOk result (λ it. it.0.in_transaction ≡ false) }
     ensures clean { IfOk result (λ it.
         doubt (state S.Store conn).is_clean ≤ doubt (state S.Store it.0).is_clean) }
 {
     let mut conn = conn;
-    match open(&mut conn, alloc, data, keeping, site) {
+    match open(&mut conn, alloc, data, pasts, keeping, site) {
         Ok(opened) => Ok((conn, opened)),
         Err(fault) => Err(fault),
     }

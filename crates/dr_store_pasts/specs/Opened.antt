@@ -14,11 +14,13 @@ module _ {P : Type 0} (g : Ghosts P) where
     pub opened : Opens before
     pub read : IsOnlyRead g before it
 
-  -- behind some reading that is so, the lines up to that seal are no history of a ledger, if what
-  -- is shown is the past
-  abbrev pub IsNoHistory : (Reads : P → Type 0) → Seal → Type 0
-  IsNoHistory Reads seal =
-      (it : P) × Reads it × (g.is_clean it → IsPast (past_in g.all_lines seal) empty_book → ⊥)
+  -- behind some reading that is so, the lines up to that seal, which counts some, are no history of a
+  -- ledger, if what is shown is the past
+  pub record IsNoHistory (Reads : P → Type 0) (seal : Seal) : Type 0 where
+    pub last : P
+    pub read : Reads last
+    pub some : 0 < seal.count
+    pub none : g.is_clean last → IsPast (past_in g.all_lines seal) empty_book → ⊥
 
   -- No ledger has such a past: fewer lines are ever sealed than the seal counts, or those of one
   -- that was opened are no history.

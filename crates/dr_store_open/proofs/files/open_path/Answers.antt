@@ -1,4 +1,12 @@
+use Rattle.std.proofs.Common.{List, subst}
+use Rattle.sqlite.specs.Files.{file_state}
 use Rattle.sqlite_wal.specs.Files.{image_at}
+use Rattle.dr_ledger.specs.Books.{Line}
+use Rattle.dr_store_calls.specs.Owners.{seal_in}
+use Rattle.dr_store.proofs.Wholes.{no_past_of}
+use Rattle.dr_store_open.specs.Opening.{HasLedgerOf}
+use Rattle.dr_store_open.proofs.Behinds.{none_counted}
+use Rattle.dr_store_open.proofs.Opens.{if_ok_both}
 use Rattle.dr_store_open.proofs.Stops.{files_found, files_made, files_new}
 use Rattle.dr_store_open.proofs.files.open_path.Goals as goal
 
@@ -21,3 +29,13 @@ pub returns-in-Ok-clause-begun : goal.returns-in-Ok-clause-begun
 returns-in-Ok-clause-begun g c =
     files_new _ (image_at g.T.Start) c.in-Ok.conn c.on.result c.in-Ok.ensures.opened
     (λ clean. (c.in-Ok.ensures.found clean).reads) c.on.ensures.begun c.on.ensures.clean
+
+-- no line has left the tables
+pub returns-in-Ok-clause-is : goal.returns-in-Ok-clause-is
+returns-in-Ok-clause-is g c =
+    if_ok_both _ _ _ c.on.result
+    (λ it kept of clean.
+        let db = (file_state it.0).committed in
+        subst (λ (past : List Line). HasLedgerOf past it.1.next c.args.site.now db) (no_past_of db.trees)
+        (kept clean (λ some. absurd (none_counted (seal_in db.trees) (of clean).reach some))).ledger)
+    c.on.ensures.kept c.on.ensures.past

@@ -1,4 +1,4 @@
-use Rattle.std.proofs.Common.{[], ◌∙◌, ℕ, List, subst, sym}
+use Rattle.std.proofs.Common.{◌∙◌, ℕ, List, subst, sym}
 use Rattle.dr_base.specs.Texts.{text_cmp}
 use Rattle.dr_ledger.specs.Pairs.{pair_cmp}
 use Rattle.dr_ledger.specs.Replies.{Lists}
@@ -6,14 +6,14 @@ use Rattle.dr_ledger.specs.SiteRoutes.{site_routing}
 use Rattle.dr_store_schema.specs.Books.{all_kept_in, arrivals_in}
 use Rattle.dr_store_lists.specs.Lists.{IsJournal, goal_cmp, goals_of}
 use Rattle.dr_store_lists.specs.declared.listing.JournalRow.{JournalRow}
-use Rattle.dr_store_audit.proofs.Told.{from_the_first}
 use Rattle.dr_store_audit.specs.Found.{AgreesAs, HoldTogether}
+use Rattle.dr_store_audit.specs.Telling.{GoOnUnder}
 use Rattle.dr_store_open.proofs.finding.agree_all.Goals as goal
 
 pub returns : goal.returns
-returns c = λ db lists.
-    let As : List (ℕ × JournalRow) → Type 0 = λ notes. AgreesAs c.agree.result (HoldTogether [] c.args.next c.args.site.now db notes) in
-    subst As c.as_slice-6.ensures.value (c.agree.ensures db [] c.new.ensures (from_the_first (site_routing c.args.site.now) c.as_slice-6.result.now) (record {
+returns c = λ db past begun goes lists.
+    let As : List (ℕ × JournalRow) → Type 0 = λ notes. AgreesAs c.agree.result (HoldTogether past c.args.next c.args.site.now db notes) in
+    subst As c.as_slice-6.ensures.value (c.agree.ensures db past begun (subst (GoOnUnder (site_routing c.args.site.now) past) (sym c.as_slice-6.ensures.value) goes) (record {
       keys_are = c.as_slice.ensures.value ∙ lists.stock.keys;
       prints_are = c.as_slice-2.ensures.value ∙ lists.stock.prints;
       arrivals_are = subst (Lists pair_cmp (arrivals_in (db 5))) (sym c.as_slice-3.ensures.value) lists.stock.arrivals;

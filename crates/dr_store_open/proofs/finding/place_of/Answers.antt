@@ -6,7 +6,7 @@ use Rattle.dr_store_open.proofs.Wholly.{placed}
 use Rattle.dr_store_open.proofs.finding.place_of.Goals as goal
 
 pub returns-then-not-is_node : goal.returns-then-not-is_node
-returns-then-not-is_node c db site owned all =
+returns-then-not-is_node c db site owned =
     let owner = c.args.owner.now in
     let it = owned.1.1 in
     never c.is_node.result c.is_node.ensures c.if-not-is_node.true (one_owner db owner.node c.args.site.now.name owner.plan it.0 site it.2).0
@@ -24,7 +24,7 @@ returns-in-Some c db site =
     placed part db mark seal owner.plan c.place_under.result with (subst (λ name. IsSiteOf name owner.plan db) node site) (c.place_under.ensures with.sealed)
 
 pub returns-in-None : goal.returns-in-None
-returns-in-None c db site owned all =
+returns-in-None c db site owned =
     let owner = c.args.owner.now in
     let part = c.args.site.now in
     let it = owned.1.1 in

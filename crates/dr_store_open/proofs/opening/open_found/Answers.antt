@@ -3,7 +3,7 @@ use Rattle.std.specs.Prelude.{IfSome}
 use Rattle.sqlite.specs.Effect.{Database}
 use Rattle.sqlite.specs.Held.{state}
 use Rattle.sqlite.specs.State.{HasCleanDisk}
-use Rattle.dr_store_open.specs.Faults.{IsOfData}
+use Rattle.dr_store_open.specs.Faults.{IsOfFiles}
 use Rattle.dr_store_open.specs.Places.{IsAt, ShowsFile}
 use Rattle.dr_store_open.proofs.Chains.{ready_not, ready_then}
 use Rattle.dr_store_open.proofs.Opens.{TestedIn, if_err_as, if_ok_as, not_in_rows, not_others, opened_own, still_now}
@@ -56,13 +56,13 @@ returns-in-Ok-clause-why g c clean =
     let same : mid.now ≡ old.now = still_now c.args.found.next old mid (c.requires.ready early) (s.ready late) (s.same late) in
     let place = c.args.found.place in
     let are = c.requires.are early in
-    not_others c.args.site.now old.now.trees c.args.found.prints.items place c.open_on.result are.prints are.agreed.hold.together are.place
+    not_others c.args.site.now old.now.trees c.args.found.prints.items place c.open_on.result are.prints are.place
     c.open_on.ensures.rows c.open_on.ensures.of_data
     (λ rows. subst (λ (d : Database). TestedIn c.open_on.result c.args.found.prints.items d.trees) same (c.open_on.ensures.own clean rows))
 
 pub returns-in-Ok-clause-there : goal.returns-in-Ok-clause-there
 returns-in-Ok-clause-there g c =
-    if_err_as _ _ c.open_on.result (λ fault beside e. beside (subst IsOfData (sym e) tt)) c.open_on.ensures.of_data
+    if_err_as _ _ c.open_on.result (λ fault beside e. beside (subst IsOfFiles (sym e) tt)) c.open_on.ensures.of_data
 
 pub returns-in-Err-clause-ready : goal.returns-in-Err-clause-ready
 returns-in-Err-clause-ready g c =
@@ -71,10 +71,12 @@ returns-in-Err-clause-ready g c =
 pub returns-in-Err-clause-why : goal.returns-in-Err-clause-why
 returns-in-Err-clause-why g c clean =
     let old = state g.S.Store c.args.conn.now in
-    let early : HasCleanDisk old = omega (arith, c.in-Err.ensures.ready.looks.clean, clean) in (
-      λ other. absurd (c.in-Err.ensures.why.0 other),
-      λ it mine. absurd (c.in-Err.ensures.rows (not_in_rows c.args.site.now old.now.trees c.args.found.place (c.requires.are early).place mine)),
-    )
+    let early : HasCleanDisk old = omega (arith, c.in-Err.ensures.ready.looks.clean, clean) in
+    record {
+      other = λ other beside. absurd (c.in-Err.ensures.why.0 other);
+      of_data = λ it mine. absurd (c.in-Err.ensures.rows (not_in_rows c.args.site.now old.now.trees c.args.found.place (c.requires.are early).place mine));
+      past = λ number is. absurd (c.in-Err.ensures.why.2 number is);
+    }
 
 pub returns-in-Err-clause-there : goal.returns-in-Err-clause-there
 returns-in-Err-clause-there g c = c.in-Err.ensures.why.1

@@ -1,6 +1,6 @@
 use Rattle.std.proofs.Common.{◌≡◌, ◌∙◌, IsTrue, false, inl, inr, true, true≢false, sym, subst}
 use Rattle.sqlite.specs.Held.{state}
-use Rattle.dr_store_open.specs.Faults.{IsOfData}
+use Rattle.dr_store_open.specs.Faults.{IsOfFiles}
 use Rattle.dr_store_open.specs.Opening.{IsBlank}
 use Rattle.dr_store_open.proofs.Blank.{blank_no_older}
 use Rattle.dr_store_open.proofs.Left.{tables_not_blank}
@@ -56,7 +56,7 @@ pub returns-clause-ours : goal.returns-clause-ours
 returns-clause-ours g c named = let it = c.renewed.ensures.ours named in (ours_as c.renewed.result it.0 c.renewed.ensures.none, it.1)
 
 pub returns-clause-there : goal.returns-clause-there
-returns-clause-there g c = if_err_as _ _ c.renewed.result (λ fault beside e. absurd (beside (subst IsOfData (sym e) tt))) c.renewed.ensures.of_data
+returns-clause-there g c = if_err_as _ _ c.renewed.result (λ fault beside e. absurd (beside (subst IsOfFiles (sym e) tt))) c.renewed.ensures.of_data
 
 pub returns-then-is_blank-clause-begun : goal.returns-then-is_blank-clause-begun
 returns-then-is_blank-clause-begun g c file =

@@ -3,7 +3,7 @@ use Rattle.sqlite.specs.Held.{state}
 use Rattle.dr_store_bodies.specs.declared.extent.Extent.{Extent}
 use Rattle.dr_store_open.specs.declared.fault.OpeningFault.TheVariants as opening
 use Rattle.dr_store_open.specs.DataSets.{AreListed, AreListedIf}
-use Rattle.dr_store_open.specs.Faults.{IsOfData}
+use Rattle.dr_store_open.specs.Faults.{IsOfFiles}
 use Rattle.dr_store_open.proofs.Chains.{ready_as, ready_failed, shown_ready}
 use Rattle.dr_store_open.proofs.Opens.{file_at, if_ok_as}
 use Rattle.dr_store_open.proofs.shelving.shelf_in_file.Goals as goal
@@ -44,4 +44,4 @@ returns-in-Err-clause-ready g c =
     ready_failed c.args.found.now.next old new c.in-Err.fault c.opening_fault.result _ c.requires c.in-Err.ensures.seen
 
 pub returns-in-Err-clause-why : goal.returns-in-Err-clause-why
-returns-in-Err-clause-why g c = (c.opening_fault.ensures.other, λ e. c.opening_fault.ensures.of_data (subst IsOfData (sym e) tt))
+returns-in-Err-clause-why g c = (c.opening_fault.ensures.other, λ e. c.opening_fault.ensures.of_data (subst IsOfFiles (sym e) tt))
