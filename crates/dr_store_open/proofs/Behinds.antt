@@ -27,10 +27,10 @@ use Rattle.dr_store_calls.specs.Owners.{IsOwnedBy, seal_in}
 use Rattle.dr_store.specs.Pasts.{past_of}
 use Rattle.dr_store_open.specs.declared.data.DataPlace.{DataPlace}
 use Rattle.dr_store_open.specs.declared.finding.FoundTables.{FoundTables}
-use Rattle.dr_store_open.specs.declared.finding.Finding.{Finding}
-use Rattle.dr_store_open.specs.declared.finding.Finding.TheVariants as finding
+use Rattle.dr_store_open.specs.declared.finding.FoundBehind.{FoundBehind}
+use Rattle.dr_store_open.specs.declared.finding.FoundBehind.TheVariants as finding
 use Rattle.dr_store_open.specs.Behind.{AreNone, AreTablesOf, IsFinding, IsSoBehind, IsTrusted, finding_by}
-use Rattle.dr_store_open.specs.Opening.{CountsPast, GoesOn, IsAgreed, IsListed}
+use Rattle.dr_store_open.specs.Opening.{CountsPast, GoesOn, IsAgreed, AreListedBehind}
 use Rattle.dr_store_open.specs.Places.{IsPlaceOf}
 
 -- no lines are taken of none
@@ -54,7 +54,7 @@ past_is_one past n part db all =
     past_front past (lines_of db) empty_book (journal_is_past (site_routing part) is.0 (with_past past (book_of db)) is.1)
 
 module _ {P : Type 0} (g : Ghosts P) (part : Part) (db : Trees) where
-  past : List Line
+  abbrev pub past : List Line
   past = past_of g.all_lines db
 
   -- a trusted past goes on, and is counted by the tables' seal
@@ -85,7 +85,7 @@ module _ {P : Type 0} (g : Ghosts P) (part : Part) (db : Trees) where
     -- what was listed behind the past that was opened
     pub tables_of : (seal : Seal) (it : P) (begun : Begun) (place : DataPlace) (found : FoundTables) → IsOpened g (Opens seal) it → g.reach it ≡ seal
         → ((0 < seal.count → g.is_clean it) → HasBegun (past_in g.all_lines seal) begun)
-        → IsListed begun part place db (Some found) → IsPlaceOf part db place → seal ≡ seal_in db
+        → AreListedBehind begun part place db (Some found) → IsPlaceOf part db place → seal ≡ seal_in db
         → AreTablesOf g Opens part db found it
     tables_of seal it begun place found opened reach has listed says is =
         let Has : Seal → Type 0 = λ s. (0 < s.count → g.is_clean it) → HasBegun (past_in g.all_lines s) begun in
@@ -99,23 +99,23 @@ module _ {P : Type 0} (g : Ghosts P) (part : Part) (db : Trees) where
 
     pub none_listed : (seal : Seal) (it : P) (begun : Begun) (place : DataPlace) → IsOpened g (Opens seal) it
         → ((0 < seal.count → g.is_clean it) → HasBegun (past_in g.all_lines seal) begun)
-        → IsListed begun part place db None → seal ≡ seal_in db
-        → IsSoBehind g Opens part db (AreNone g part db)
+        → AreListedBehind begun part place db None → seal ≡ seal_in db
+        → IsSoBehind g Opens db (AreNone g part db)
     none_listed seal it begun place opened has listed is =
         let Has : Seal → Type 0 = λ s. (0 < s.count → g.is_clean it) → HasBegun (past_in g.all_lines s) begun in
         inr (it, subst (λ (s : Seal). IsOpened g (Opens s) it) is opened,
-        λ trusted n all owned count. listed.agreed past (subst Has is has (λ some. (trusted some).0)) (trusted_goes_on it trusted) n all)
+        λ shown n all owned count. listed.agreed past (subst Has is has shown) n all)
 
     -- why no past was opened
-    none_opened : (seal : Seal) → IsNone g (Opens seal) seal → seal ≡ seal_in db → IsSoBehind g Opens part db (AreNone g part db)
+    none_opened : (seal : Seal) → IsNone g (Opens seal) seal → seal ≡ seal_in db → IsSoBehind g Opens db (AreNone g part db)
     none_opened seal (inl few) is = inl (λ n all owned count. too_few (subst (λ (s : Seal). length g.all_lines < s.count) is few) count)
     none_opened seal (inr it) is =
         let no : IsNoHistory g (IsOpened g (Opens (seal_in db))) (seal_in db) = subst (λ (s : Seal). IsNoHistory g (IsOpened g (Opens s)) s) is it in
-        inr (no.last, no.read, λ trusted n all owned count. no.none (trusted no.some).0 (past_is_one past n part db all))
+        inr (no.last, no.read, λ shown n all owned count. no.none (shown no.some) (past_is_one past n part db all))
 
     pub refused : (seal : Seal) (place : DataPlace) (fault : PastRefusal)
         → (fault ≡ refusal.None → IsNone g (Opens seal) seal) → (fault ≡ refusal.Lost → 0 < seal.count)
-        → Reads (let r : Result (Finding P) LedgerFault = finding_by seal fault in r) (λ found. IsPlaceOf part db place → seal ≡ seal_in db → IsFinding g Opens part db found)
+        → Reads (let r : Result (FoundBehind P) LedgerFault = finding_by seal fault in r) (λ found. IsPlaceOf part db place → seal ≡ seal_in db → IsFinding g Opens part db found)
     refused seal place refusal.None none lost = λ says is. none_opened seal (none refl) is
     refused seal place refusal.Lost none lost = λ says is. (ap (λ (s : Seal). s.number) is, subst (λ (s : Seal). 0 < s.count) is (lost refl))
     refused seal place refusal.Store none lost = tt

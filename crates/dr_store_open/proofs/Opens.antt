@@ -43,8 +43,8 @@ use Rattle.dr_store_open.specs.DataSets.{AreListed, AreOwnUnder, IsOwn}
 use Rattle.dr_store_open.specs.Faults.{IsOfData, IsOfFiles}
 use Rattle.dr_store_open.specs.Places.{HasOwnOn, HasSomeHead, IsAt, IsBegun, IsFileWith, IsPlaceOf, IsPlacedBy, ShowsFile, names_in, seen_on}
 use Rattle.dr_store_open.specs.Renewing.{KeepsRows}
-use Rattle.dr_store_open.specs.declared.finding.Finding.TheVariants as finding
-use Rattle.dr_store_open.specs.Behind.{AreTablesOf, AreTold, IsAsMade, IsLost, IsPastOf, IsSoBehind, IsTrusted, IsWhy, IsWholeOpened, LedgersAreTheirSites}
+use Rattle.dr_store_open.specs.declared.finding.FoundBehind.TheVariants as finding
+use Rattle.dr_store_open.specs.Behind.{AreTablesOf, AreTold, IsAsMade, IsLost, IsPastOf, IsShown, IsSoBehind, IsTrusted, IsWhy, IsWholeOpened, LedgersAreTheirSites}
 use Rattle.dr_store_open.specs.Opening.{AreFoundReady, HasNewLedger, IsBlank, IsBroughtOver, IsLedgerFound, IsWhyNot, LeavesOldOrCommitted, ShelvesAreInTheirPlaces, StaysAsFound, StaysReady}
 use Rattle.dr_store_open.proofs.Blank.{blank_no_older}
 use Rattle.dr_store_open.proofs.Chains.{looks_then}
@@ -99,16 +99,16 @@ data_is_file opening.OtherSite is = absurd is
 data_is_file opening.Store is = absurd is
 data_is_file opening.Memory is = absurd is
 
--- what is so behind a past is so where each that may be opened is trusted
-so_of : {P : Type 0} (l : PastGhosts P) (Opens : Seal → P → Type 0) (part : Part) (db : Trees) (So : Type 0)
-    → ((it : P) → IsOpened l (Opens (seal_in db)) it → IsTrusted l part db it) → IsSoBehind l Opens part db So → So
-so_of l Opens part db So trusted (inl so) = so
-so_of l Opens part db So trusted (inr (it, opened, so)) = so (trusted it opened)
+-- what is so behind a past is so where each that may be opened is shown
+so_of : {P : Type 0} (l : PastGhosts P) (Opens : Seal → P → Type 0) (db : Trees) (So : Type 0)
+    → ((it : P) → IsOpened l (Opens (seal_in db)) it → IsShown l db it) → IsSoBehind l Opens db So → So
+so_of l Opens db So shown (inl so) = so
+so_of l Opens db So shown (inr (it, opened, so)) = so (shown it opened)
 
 pub their_sites : {P : Type 0} (l : PastGhosts P) (Opens : Seal → P → Type 0) → LedgersAreTheirSites l Opens
 their_sites l Opens = record {
-  marked = λ n part db mark said has trusted owned is why. in_file part db.trees mark said owned is (so_of l Opens part db.trees _ trusted (why.other refl) n has).0;
-  own = λ n part db has trusted own why. (so_of l Opens part db.trees _ trusted (why.other refl) n has).1 own;
+  marked = λ n part db mark said has shown owned is why. in_file part db.trees mark said owned is (so_of l Opens db.trees _ shown (why.other refl) n has).0;
+  own = λ n part db has shown own why. (so_of l Opens db.trees _ shown (why.other refl) n has).1 own;
   lost = λ n part db has mine why. why.of_data tt has.schema mine;
   there = λ n part db has mine why. why.of_data tt has.schema mine;
   in_use = λ n part db has mine why. why.of_data tt has.schema mine;
@@ -301,7 +301,7 @@ module _ {D P : Type 0} {g : Ghosts D} (l : PastGhosts P) (Opens : Seal → P �
     placed = λ clean. tt;
     own = λ clean. tt;
     why = λ stood clean. record {
-      other = λ is. behind_as l Opens part old.now.trees _ _ (λ none n has. absurd (none n has)) (f.is_not clean);
+      other = λ is. behind_as l Opens old.now.trees _ _ (λ none n has. absurd (none n has)) (f.is_not clean);
       of_data = λ it. absurd it;
       past = λ number is. absurd (apart number is);
     };

@@ -1,5 +1,5 @@
 -- What comparing says of the tables, and what an opening does.
-use Rattle.std.proofs.Common.{◌≡◌, ◌+◌, ◌<◌, ◌≤◌, ◌⊎◌, ◌∷◌, ◌++◌, [], ℕ, List, length, take, drop, Contains, Option, Some, None, Ok, Err, Result, inl, inr, refl, sym, ap, subst, ◌∙◌, IsTrue, arith, length-append}
+use Rattle.std.proofs.Common.{◌≡◌, ◌+◌, ◌<◌, ◌≤◌, ◌⊎◌, ◌∷◌, ◌++◌, [], ℕ, suc, List, length, take, drop, slice_index_or, map as mapped, Contains, Option, Some, None, Ok, Err, Result, inl, inr, refl, sym, ap, subst, ◌∙◌, IsTrue, arith, length-append}
 use Rattle.std.specs.Prelude.{MatchOption}
 use Rattle.std.specs.Int.{w64, from_le_bytes}
 use Rattle.std.specs.List.{AllByRecursion}
@@ -12,8 +12,11 @@ use Rattle.sqlite.specs.Tree.{Trees, rowid}
 use Rattle.dr_ledger.specs.declared.fault.LedgerFault.{LedgerFault}
 use Rattle.dr_store_schema.specs.Ledgers.{IsLedger}
 use Rattle.dr_site.specs.Parts.{Part}
-use Rattle.dr_ledger.specs.Books.{Fold, Line, empty_book}
+use Rattle.dr_ledger.specs.Books.{Adoption, Fold, Line, empty_book}
+use Rattle.dr_ledger.specs.Histories.{IsJournalled}
+use Rattle.dr_ledger.specs.SiteRoutes.{site_routing}
 use Rattle.dr_ledger_past.specs.Pasts.{with_past}
+use Rattle.dr_ledger_past.proofs.Goings.{journals_go_on}
 use Rattle.dr_store_schema.specs.Books.{AreBelow, book_of, lines_of}
 use Rattle.dr_store_schema.specs.Cells.{number_in}
 use Rattle.dr_store_writes.specs.Effects.{IsSiteOf}
@@ -28,15 +31,17 @@ use Rattle.dr_store_calls.specs.Owners.{IsMark, IsOwnedBy, IsPlanWith, seal_in}
 use Rattle.dr_store_calls.proofs.Owners.{marks_are_one, seals_are_read}
 use Rattle.dr_store_lists.specs.Lists.{IsJournal, line_of, note_in}
 use Rattle.dr_store_lists.specs.declared.listing.JournalRow.{JournalRow}
+use Rattle.dr_store_lists.specs.declared.listing.JournalRow.TheVariants as note
 use Rattle.dr_store_audit.specs.Begun.{HasBegun}
 use Rattle.dr_store_audit.specs.Found.{HoldTogether}
 use Rattle.dr_store_audit.specs.Journal.{CountUp}
+use Rattle.dr_store_audit.specs.Telling.{GoOnUnder}
 use Rattle.dr_store_audit.specs.declared.begun.Begun.{Begun}
 use Rattle.dr_store.specs.Pasts.{past_of}
 use Rattle.dr_store_open.specs.declared.data.DataPlace.{DataPlace}
 use Rattle.dr_store_open.specs.declared.data.DataPlace.TheVariants as put
-use Rattle.dr_store_open.specs.declared.finding.Finding.{Finding}
-use Rattle.dr_store_open.specs.declared.finding.Finding.TheVariants as finding
+use Rattle.dr_store_open.specs.declared.finding.FoundBehind.{FoundBehind}
+use Rattle.dr_store_open.specs.declared.finding.FoundBehind.TheVariants as finding
 use Rattle.dr_store_open.specs.Behind.{AreNone, AreTablesOf, AreTold, IfLost, IfOther, IfTables, IsFinding, IsLost, IsSoBehind}
 use Rattle.dr_store_open.specs.Places.{IsPlaceIn, IsPlaceOf}
 use Rattle.dr_store_open.specs.Renewing.{KeepsRows}
@@ -72,7 +77,40 @@ lines_counted db notes journal =
     sym (length-map notes (λ (e : ℕ × JournalRow). line_of (db 12) e.0 e.1))
     ∙ ap length (journal.lines (db 12))
 
+-- a note whose line adopts a plan
+adoption : (goals : List Row) (n : ℕ) (it : JournalRow) → line_of goals n it ≡ Adoption → it ≡ note.Adoption
+adoption goals n (note.Arrival caller item) same = absurd cc
+adoption goals n (note.Repeat caller item) same = absurd cc
+adoption goals n (note.Settling uid dest what now) same = absurd cc
+adoption goals n (note.Requeuing uid dest) same = absurd cc
+adoption goals n (note.Dropping uid dest now) same = absurd cc
+adoption goals n (note.Forgetting uid) same = absurd cc
+adoption goals n note.Adoption same = refl
+
+adopts_at : (goals : List Row) (notes : List (ℕ × JournalRow)) (earlier since : List Line)
+    → mapped (λ (e : ℕ × JournalRow). line_of goals e.0 e.1) notes ≡ earlier ++ Adoption ∷ since
+    → (k : ℕ) × (d : ℕ × JournalRow) × (k < length notes) × ((slice_index_or notes k d).1 ≡ note.Adoption)
+adopts_at goals [] [] since same = absurd cc
+adopts_at goals [] (line ∷ earlier) since same = absurd cc
+adopts_at goals (e ∷ notes) [] since same =
+    let head : line_of goals e.0 e.1 ≡ Adoption = cc in
+    (0, e, omega arith, adoption goals e.0 e.1 head)
+adopts_at goals (e ∷ notes) (line ∷ earlier) since same =
+    let tail : mapped (λ (x : ℕ × JournalRow). line_of goals x.0 x.1) notes ≡ earlier ++ Adoption ∷ since = cc in
+    let it = adopts_at goals notes earlier since tail in
+    let low = it.2 in
+    (suc it.0, it.1, omega (arith, low), it.3)
+
 module _ (part : Part) (db : Trees) (notes : List (ℕ × JournalRow)) (journal : IsJournal db notes) where
+  -- a journal with a past goes on from it under the plan in force
+  pub goes_on : (past : List Line) → IsJournalled (site_routing part) (with_past past (book_of db)) → GoOnUnder (site_routing part) past notes
+  goes_on past is =
+      let from = (journals_go_on (site_routing part) past (book_of db)).0 is in
+      elim from.follow [
+        | inl both ↦ inl both.0
+        | inr among ↦ inr (adopts_at (db 12) notes among.earlier among.since (journal.lines (db 12) ∙ among.are))
+      ]
+
   -- the rows of lines whose numbers were tested
   pub all_below : (n : ℕ) → HasNumbers db → AllByRecursion (λ (e : ℕ × JournalRow). e.0 < n) notes → AreBelow n (db 11)
   all_below n numbers low = rows_below numbers.0 n notes low (db 11) numbers.1 journal.each
@@ -156,9 +194,9 @@ places_are_one part other db (put.InFile said) (put.InFile beside) one two =
 
 module _ {P : Type 0} (g : Ghosts P) (Opens : Seal → P → Type 0) where
   -- what follows of tables follows where their past is trusted
-  pub behind_as : (part : Part) (db : Trees) (So Other : Type 0) → (So → Other) → IsSoBehind g Opens part db So → IsSoBehind g Opens part db Other
-  behind_as part db So Other says (inl so) = inl (says so)
-  behind_as part db So Other says (inr (it, opened, so)) = inr (it, opened, λ trusted. says (so trusted))
+  pub behind_as : (db : Trees) (So Other : Type 0) → (So → Other) → IsSoBehind g Opens db So → IsSoBehind g Opens db Other
+  behind_as db So Other says (inl so) = inl (says so)
+  behind_as db So Other says (inr (it, opened, so)) = inr (it, opened, λ trusted. says (so trusted))
 
   pub none_opened : (part : Part) (s : State) → HasNoLedgerOf (past_of g.all_lines s.now.trees) part s.now
       → AreTold g Opens part (Ok finding.OtherSite) s s
@@ -174,10 +212,10 @@ module _ {P : Type 0} (g : Ghosts P) (Opens : Seal → P → Type 0) where
 
   module _ (part : Part) (old new : State) (has : HasTables old.now) (live : IsLive old) (settled : IsTrue old.is_open → old.now ≡ old.committed) where
     -- what the tables showed, and what of them was tested
-    abbrev pub ShowsAll : Database → Finding P → Type 0
+    abbrev pub ShowsAll : Database → FoundBehind P → Type 0
     ShowsAll db found = AreTested db.trees × IsFinding g Opens part db.trees found
 
-    pub opened : (r : Result (Finding P) LedgerFault) → Asked HasTables r old new (ShowsAll old.now) → AreTold g Opens part r old new
+    pub opened : (r : Result (FoundBehind P) LedgerFault) → Asked HasTables r old new (ShowsAll old.now) → AreTold g Opens part r old new
     opened r a = record {
       has = named r;
       ready = λ clean. ready clean r a;
@@ -188,22 +226,22 @@ module _ {P : Type 0} (g : Ghosts P) (Opens : Seal → P → Type 0) where
       looks = record { stays = λ clean is_open. (a.was_open clean is_open, (a.stays clean is_open has).committed); leaves = λ clean db left. a.leaves clean has db left; clean = a.clean; idle = a.idle };
     }
       where
-        named : (r : Result (Finding P) LedgerFault) → IfTables r (λ found it. HasTables old.now)
+        named : (r : Result (FoundBehind P) LedgerFault) → IfTables r (λ found it. HasTables old.now)
         named (Ok (finding.Tables found it)) = has
         named (Ok finding.OtherSite) = tt
         named (Ok (finding.Lost number)) = tt
         named (Err why) = tt
 
-        none : HasCleanDisk new → (r : Result (Finding P) LedgerFault) → Asked HasTables r old new (ShowsAll old.now)
-            → IfOther r (IsSoBehind g Opens part old.now.trees (HasNoLedgerOf (past_of g.all_lines old.now.trees) part old.now))
+        none : HasCleanDisk new → (r : Result (FoundBehind P) LedgerFault) → Asked HasTables r old new (ShowsAll old.now)
+            → IfOther r (IsSoBehind g Opens old.now.trees (HasNoLedgerOf (past_of g.all_lines old.now.trees) part old.now))
         none clean (Ok (finding.Tables found it)) a = tt
         none clean (Ok finding.OtherSite) a =
-            behind_as part old.now.trees (AreNone g part old.now.trees) (HasNoLedgerOf (past_of g.all_lines old.now.trees) part old.now)
+            behind_as old.now.trees (AreNone g part old.now.trees) (HasNoLedgerOf (past_of g.all_lines old.now.trees) part old.now)
             (λ no n is. no n is.agreed is.owned is.counted) (a.shown clean has).1
         none clean (Ok (finding.Lost number)) a = tt
         none clean (Err why) a = tt
 
-        lost : HasCleanDisk new → (r : Result (Finding P) LedgerFault) → Asked HasTables r old new (ShowsAll old.now)
+        lost : HasCleanDisk new → (r : Result (FoundBehind P) LedgerFault) → Asked HasTables r old new (ShowsAll old.now)
             → IfLost r (λ number. IsLost number old.now.trees)
         lost clean (Ok (finding.Tables found it)) a = tt
         lost clean (Ok finding.OtherSite) a = tt
@@ -216,20 +254,20 @@ module _ {P : Type 0} (g : Ghosts P) (Opens : Seal → P → Type 0) where
             let is = a.same clean has in
             settled (a.was_open clean is.0) ∙ sym (a.stays clean is.0 has).committed
 
-        was : HasCleanDisk new → (r : Result (Finding P) LedgerFault) → Asked HasTables r old new (ShowsAll old.now) → IfTables r (λ found it. old.now ≡ new.committed)
+        was : HasCleanDisk new → (r : Result (FoundBehind P) LedgerFault) → Asked HasTables r old new (ShowsAll old.now) → IfTables r (λ found it. old.now ≡ new.committed)
         was clean (Ok (finding.Tables found it)) a = back clean (finding.Tables found it) (ShowsAll old.now) a
         was clean (Ok finding.OtherSite) a = tt
         was clean (Ok (finding.Lost number)) a = tt
         was clean (Err why) a = tt
 
-        are : HasCleanDisk new → (r : Result (Finding P) LedgerFault) → Asked HasTables r old new (ShowsAll old.now) → IfTables r (AreTablesOf g Opens part new.committed.trees)
+        are : HasCleanDisk new → (r : Result (FoundBehind P) LedgerFault) → Asked HasTables r old new (ShowsAll old.now) → IfTables r (AreTablesOf g Opens part new.committed.trees)
         are clean (Ok (finding.Tables found it)) a =
             subst (λ (d : Database). AreTablesOf g Opens part d.trees found it) (back clean (finding.Tables found it) (ShowsAll old.now) a) (a.shown clean has).1
         are clean (Ok finding.OtherSite) a = tt
         are clean (Ok (finding.Lost number)) a = tt
         are clean (Err why) a = tt
 
-        ready : HasCleanDisk new → (r : Result (Finding P) LedgerFault) → Asked HasTables r old new (ShowsAll old.now) → IfTables r (λ found it. AreFoundReady found.next part old new)
+        ready : HasCleanDisk new → (r : Result (FoundBehind P) LedgerFault) → Asked HasTables r old new (ShowsAll old.now) → IfTables r (λ found it. AreFoundReady found.next part old new)
         ready clean (Ok (finding.Tables found it)) a =
             let is = a.same clean has in
             let was_open = a.was_open clean is.0 in

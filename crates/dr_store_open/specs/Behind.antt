@@ -24,8 +24,8 @@ use Rattle.dr_store_open.specs.declared.data.OpenedLedger.{OpenedLedger}
 use Rattle.dr_store_open.specs.declared.fault.OpeningFault.{OpeningFault}
 use Rattle.dr_store_open.specs.declared.fault.OpeningFault.TheVariants as opening
 use Rattle.dr_store_open.specs.declared.finding.FoundTables.{FoundTables}
-use Rattle.dr_store_open.specs.declared.finding.Finding.{Finding}
-use Rattle.dr_store_open.specs.declared.finding.Finding.TheVariants as finding
+use Rattle.dr_store_open.specs.declared.finding.FoundBehind.{FoundBehind}
+use Rattle.dr_store_open.specs.declared.finding.FoundBehind.TheVariants as finding
 use Rattle.dr_store_open.specs.DataSets.{IsOwn}
 use Rattle.dr_store_open.specs.Faults.{IsOfData}
 use Rattle.dr_store_open.specs.Opening.{AreFoundReady, AreOf, CountsPast, GoesOn, HasLedgerOf}
@@ -34,7 +34,7 @@ use Rattle.dr_store_open.specs.Opening.{IsLedgerFound, OnlyLooks}
 use Rattle.dr_store_open.specs.Places.{HasOwnOn, IsPlacedBy, names_in}
 
 -- what the refusal of a past says of the tables with that seal
-abbrev pub finding_by : {P : Type 0} → Seal → PastRefusal → Result (Finding P) LedgerFault
+abbrev pub finding_by : {P : Type 0} → Seal → PastRefusal → Result (FoundBehind P) LedgerFault
 finding_by seal refusal.None = Ok finding.OtherSite
 finding_by seal refusal.Lost = Ok (finding.Lost seal.number)
 finding_by seal refusal.Store = Err failed.Store
@@ -46,7 +46,7 @@ abbrev pub IsLost : ℕ → Trees → Type 0
 IsLost number db = (number ≡ (seal_in db).number) × (0 < (seal_in db).count)
 
 -- where tables are found, this holds of them and of their past
-abbrev pub IfTables : {P : Type 0} → Result (Finding P) LedgerFault → (FoundTables → P → Type 0)
+abbrev pub IfTables : {P : Type 0} → Result (FoundBehind P) LedgerFault → (FoundTables → P → Type 0)
     → Type 0
 IfTables (Ok (finding.Tables found it)) So = So found it
 IfTables (Ok finding.OtherSite) So = Unit {0}
@@ -54,22 +54,27 @@ IfTables (Ok (finding.Lost number)) So = Unit {0}
 IfTables (Err why) So = Unit {0}
 
 -- where they are another's, this holds
-abbrev pub IfOther : {P : Type 0} → Result (Finding P) LedgerFault → Type 0 → Type 0
+abbrev pub IfOther : {P : Type 0} → Result (FoundBehind P) LedgerFault → Type 0 → Type 0
 IfOther (Ok (finding.Tables found it)) So = Unit {0}
 IfOther (Ok finding.OtherSite) So = So
 IfOther (Ok (finding.Lost number)) So = Unit {0}
 IfOther (Err why) So = Unit {0}
 
 -- where a file of their past is lost, this holds of its number
-abbrev pub IfLost : {P : Type 0} → Result (Finding P) LedgerFault → (ℕ → Type 0) → Type 0
+abbrev pub IfLost : {P : Type 0} → Result (FoundBehind P) LedgerFault → (ℕ → Type 0) → Type 0
 IfLost (Ok (finding.Tables found it)) So = Unit {0}
 IfLost (Ok finding.OtherSite) So = Unit {0}
 IfLost (Ok (finding.Lost number)) So = So number
 IfLost (Err why) So = Unit {0}
 
 module _ {P : Type 0} (g : Ghosts P) where
-  -- What is proved of tables with a past holds as far as this one shows what it is, and if the lines
-  -- of the tables go on from it. Of tables whose seal counts no line it holds whatever is shown.
+  -- what is shown of it is the past of these tables; where their seal counts no line, whatever is
+  -- shown
+  abbrev pub IsShown : Trees → P → Type 0
+  IsShown db it = 0 < (seal_in db).count → g.is_clean it
+
+  -- So it is, and the lines of the tables go on from it. It is so of tables whose seal counts no
+  -- line.
   abbrev pub IsTrusted : Part → Trees → P → Type 0
   IsTrusted part db it =
       0 < (seal_in db).count → g.is_clean it × GoesOn (past_of g.all_lines db) part db
@@ -84,10 +89,10 @@ module _ {P : Type 0} (g : Ghosts P) where
       → ⊥
 
 module _ {P : Type 0} (g : Ghosts P) (Opens : Seal → P → Type 0) where
-  -- so it is, or it is where a past is trusted that was opened for these tables
-  abbrev pub IsSoBehind : Part → Trees → Type 0 → Type 0
-  IsSoBehind part db So =
-      So ⊎ ((it : P) × IsOpened g (Opens (seal_in db)) it × (IsTrusted g part db it → So))
+  -- so it is, or it is where a past is shown that was opened for these tables
+  abbrev pub IsSoBehind : Trees → Type 0 → Type 0
+  IsSoBehind db So =
+      So ⊎ ((it : P) × IsOpened g (Opens (seal_in db)) it × (IsShown g db it → So))
 
   -- The tables are those of a ledger of that site with their past, which was opened for them; this
   -- is what was found in them.
@@ -100,15 +105,15 @@ module _ {P : Type 0} (g : Ghosts P) (Opens : Seal → P → Type 0) where
 
   -- They are those, they are none's, or a file of their past is lost, the one of this number: their
   -- seal counts a line then, whose file it is.
-  abbrev pub IsFinding : Part → Trees → Finding P → Type 0
+  abbrev pub IsFinding : Part → Trees → FoundBehind P → Type 0
   IsFinding part db (finding.Tables found it) = AreTablesOf part db found it
-  IsFinding part db finding.OtherSite = IsSoBehind part db (AreNone g part db)
+  IsFinding part db finding.OtherSite = IsSoBehind db (AreNone g part db)
   IsFinding part db (finding.Lost number) = IsLost number db
 
   -- What tells whether a file has the tables of a ledger of this site does. Where it says what they
   -- have, they stand ready, and are that ledger's; where they are another's, the file has no ledger
   -- of this site.
-  pub record AreTold (part : Part) (result : Result (Finding P) LedgerFault) (old new : State)
+  pub record AreTold (part : Part) (result : Result (FoundBehind P) LedgerFault) (old new : State)
     : Type 0 where
       pub has : IfTables result (λ found it. old.now.schema ≡ tables)
       pub ready : HasCleanDisk new
@@ -116,7 +121,7 @@ module _ {P : Type 0} (g : Ghosts P) (Opens : Seal → P → Type 0) where
       pub are : HasCleanDisk new → IfTables result (AreTablesOf part new.committed.trees)
       pub was : HasCleanDisk new → IfTables result (λ found it. old.now ≡ new.committed)
       pub is_not : HasCleanDisk new
-          → IfOther result (IsSoBehind part old.now.trees
+          → IfOther result (IsSoBehind old.now.trees
           (HasNoLedgerOf (past_of g.all_lines old.now.trees) part old.now))
       pub lost : HasCleanDisk new → IfLost result (λ number. IsLost number old.now.trees)
       pub looks : OnlyLooks old new
@@ -126,7 +131,7 @@ module _ {P : Type 0} (g : Ghosts P) (Opens : Seal → P → Type 0) where
   -- only where they aren't in rows. Or a file of its past is lost.
   pub record IsWhy (part : Part) (was : Database) (fault : OpeningFault) : Type 0 where
     pub other : fault ≡ opening.OtherSite
-        → IsSoBehind part was.trees
+        → IsSoBehind was.trees
         ((n : ℕ) → HasLedgerOf (past_of g.all_lines was.trees) n part was
         → HasOther part was.trees)
     pub of_data : IsOfData fault → was.schema ≡ tables → IsOwnedWith [] part was.trees → ⊥
@@ -172,13 +177,13 @@ pub record LedgersAreTheirSites {P : Type 0} (g : Ghosts P) (Opens : Seal → P 
   where
     pub marked : (n : ℕ) (part : Part) (db : Database) (mark : List ℕ) (said : DataMark)
         → HasLedgerOf (past_of g.all_lines db.trees) n part db
-        → ((it : P) → IsOpened g (Opens (seal_in db.trees)) it → IsTrusted g part db.trees it)
+        → ((it : P) → IsOpened g (Opens (seal_in db.trees)) it → IsShown g db.trees it)
         → IsOwnedWith mark part db.trees
         → IsMarkOf mark said
         → IsWhy g Opens part db opening.OtherSite → ⊥
     pub own : (n : ℕ) (part : Part) (db : Database)
         → HasLedgerOf (past_of g.all_lines db.trees) n part db
-        → ((it : P) → IsOpened g (Opens (seal_in db.trees)) it → IsTrusted g part db.trees it)
+        → ((it : P) → IsOpened g (Opens (seal_in db.trees)) it → IsShown g db.trees it)
         → ((uid : Text) → IsOwn uid db.trees)
         → IsWhy g Opens part db opening.OtherSite → ⊥
     pub lost : (n : ℕ) (part : Part) (db : Database)

@@ -81,20 +81,21 @@ pub record AreOf (part : Part) (db : Trees) (found : FoundTables) : Type 0 where
   pub place : IsPlaceOf part db found.place
   pub prints : found.prints.items ≡ map.entries (whole_prints_of db)
 
--- they are those of a ledger of that site with that past, or are none's
-abbrev pub IsAgreedIf : List Line → Part → Trees → Option FoundTables → Type 0
-IsAgreedIf past part db None = (n : ℕ) → IsAgreed past n part db → ⊥
-IsAgreedIf past part db (Some found) = IsAgreed past found.next part db
-
 -- Behind that past the lines of the tables go on under the site's plan: the past is a journal under
 -- it, or one of the tables' lines adopts a plan. So it is by itself where there is no past.
 abbrev pub GoesOn : List Line → Part → Trees → Type 0
 GoesOn past part db = GoOnUnder (site_routing part) past (map.entries (notes_of db))
 
--- so it is behind each past that was begun with, and from which the tables' lines go on
+-- They are those of a ledger of that site behind each past that was begun with, if they go on from
+-- it; or they are those of none behind such a past.
 abbrev pub AreAgreedBehind : Begun → Part → Trees → Option FoundTables → Type 0
-AreAgreedBehind begun part db found =
-    (past : List Line) → HasBegun past begun → GoesOn past part db → IsAgreedIf past part db found
+AreAgreedBehind begun part db None =
+    (past : List Line) → HasBegun past begun → (n : ℕ) → IsAgreed past n part db → ⊥
+AreAgreedBehind begun part db (Some found) =
+    (past : List Line)
+    → HasBegun past begun
+    → GoesOn past part db
+    → IsAgreed past found.next part db
 
 -- where something is found in tables whose owner's row says that place
 abbrev pub AreOfIf : Part → DataPlace → Trees → Option FoundTables → Type 0
@@ -102,7 +103,7 @@ AreOfIf part place db None = Unit {0}
 AreOfIf part place db (Some found) = IsPlaceOf part db place → AreOf part db found
 
 -- what is listed of tables says both
-pub record IsListed (begun : Begun) (part : Part) (place : DataPlace) (db : Trees)
+pub record AreListedBehind (begun : Begun) (part : Part) (place : DataPlace) (db : Trees)
     (found : Option FoundTables) : Type 0 where
   pub are : AreOfIf part place db found
   pub agreed : AreAgreedBehind begun part db found

@@ -17,7 +17,7 @@ ghost use Rattle.dr_store_sealed.specs.InTables.{IsSealText, seal_said};
 ghost use Rattle.dr_store_calls.specs.Owners.{IsMark, IsOwnedBy, seal_in};
 ghost use Rattle.dr_store_open.specs.Behind.{IsFinding, finding_by};
 ghost use Rattle.dr_store_open.specs.Listed.{AreWholeListsOf};
-ghost use Rattle.dr_store_open.specs.Opening.{IsListed, IsSaidIf, Seen};
+ghost use Rattle.dr_store_open.specs.Opening.{AreListedBehind, IsSaidIf, Seen};
 ghost use Rattle.dr_store_open.specs.Places.{IsPlaceIn, IsPlaceOf};
 
 use crate::data::DataPlace;
@@ -46,7 +46,7 @@ pub struct FoundTables {
 
 /// What is found in tables, where they are a ledger's: what they have, and its past.
 #[derive(Drop)]
-pub enum Finding<P: Drop> {
+pub enum FoundBehind<P: Drop> {
     /// They are those of a ledger of this site, with this past.
     Tables(FoundTables, P),
     /// They are another's, or no ledger's.
@@ -178,7 +178,7 @@ fn compare(
     lists: WholeLists,
 ) -> Result<Option<FoundTables>, LedgerFault>
     ensures { (db : Trees) → AreWholeListsOf db lists
-        → Reads result (IsListed begun site.now place db) }
+        → Reads result (AreListedBehind begun site.now place db) }
 {
     let Some(next) = number_after(begun.first, &lists.journal) else {
         return Err(LedgerFault::Store);
@@ -207,7 +207,7 @@ fn find_lists<'x, S: Alter>(
     begun: Begun,
 ) -> Result<Option<FoundTables>, LedgerFault>
     ensures asked { Asked IsLedger result (state S.Store conn.old) (state S.Store conn.new)
-        (IsListed begun site.now place (state S.Store conn.old).now.trees) }
+        (AreListedBehind begun site.now place (state S.Store conn.old).now.trees) }
 {
     match list_all(conn, alloc) {
         Ok(lists) => compare(alloc, site, place, begun, lists),
@@ -216,12 +216,12 @@ fn find_lists<'x, S: Alter>(
 }
 
 /// What is found in tables of this seal, whose past isn't opened.
-fn unopened<P: Drop>(seal: &Seal, fault: PastRefusal) -> Result<Finding<P>, LedgerFault>
+fn unopened<P: Drop>(seal: &Seal, fault: PastRefusal) -> Result<FoundBehind<P>, LedgerFault>
     ensures { result ≡ finding_by seal.now fault }
 {
     match fault {
-        PastRefusal::None => Ok(Finding::OtherSite),
-        PastRefusal::Lost => Ok(Finding::Lost(seal.number)),
+        PastRefusal::None => Ok(FoundBehind::OtherSite),
+        PastRefusal::Lost => Ok(FoundBehind::Lost(seal.number)),
         PastRefusal::Store => Err(LedgerFault::Store),
         PastRefusal::Memory => Err(LedgerFault::Memory),
     }
@@ -250,14 +250,14 @@ pub fn find_owned<'x, S: Alter, O: OpensPast>(
     alloc: Global,
     pasts: &'x O,
     site: &'x Site,
-) -> Result<Finding<O::Past>, LedgerFault>
+) -> Result<FoundBehind<O::Past>, LedgerFault>
     ensures asked { Asked IsLedger result (state S.Store conn.old) (state S.Store conn.new)
         (IsFinding O.Past.LedgerPast (O.opens pasts.now) site.now
         (state S.Store conn.old).now.trees) }
 {
     match find_said(conn, alloc, site) {
         Ok(Some((place, seal))) => find_behind(conn, alloc, pasts, site, place, &seal),
-        Ok(None) => Ok(Finding::OtherSite),
+        Ok(None) => Ok(FoundBehind::OtherSite),
         Err(fault) => Err(fault),
     }
 }
@@ -270,7 +270,7 @@ fn find_behind<'x, S: Alter, O: OpensPast>(
     site: &'x Site,
     place: DataPlace,
     seal: &'x Seal,
-) -> Result<Finding<O::Past>, LedgerFault>
+) -> Result<FoundBehind<O::Past>, LedgerFault>
     ensures seen { Seen IsLedger result (state S.Store conn.old) (state S.Store conn.new)
         (λ found. IsPlaceOf site.now (state S.Store conn.old).now.trees place
         → seal.now ≡ seal_in (state S.Store conn.old).now.trees
@@ -282,8 +282,8 @@ fn find_behind<'x, S: Alter, O: OpensPast>(
         Err(fault) => return unopened(seal, fault),
     };
     match find_lists(conn, alloc, site, place, begun) {
-        Ok(Some(found)) => Ok(Finding::Tables(found, past)),
-        Ok(None) => Ok(Finding::OtherSite),
+        Ok(Some(found)) => Ok(FoundBehind::Tables(found, past)),
+        Ok(None) => Ok(FoundBehind::OtherSite),
         Err(fault) => Err(fault),
     }
 }

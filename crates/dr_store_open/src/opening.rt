@@ -28,7 +28,7 @@ use crate::beside::new_data;
 use crate::bodies::test_rows;
 use crate::data::{Keeping, OpenedLedger, is_wanted};
 use crate::fault::{OpeningFault, of_tables, opening_fault};
-use crate::finding::{Finding, FoundTables, find_owned};
+use crate::finding::{FoundBehind, FoundTables, find_owned};
 use crate::making::make;
 use crate::renewing::renew_older;
 use crate::shelving::shelf_of;
@@ -63,7 +63,7 @@ fn find_tested<S: Alter, O: OpensPast>(
     alloc: Global,
     pasts: &O,
     site: &Site,
-) -> Result<Finding<O::Past>, LedgerFault>
+) -> Result<FoundBehind<O::Past>, LedgerFault>
     requires schema { (state S.Store conn.old).now.schema ≡ tables }
     requires live { IsLive (state S.Store conn.old) }
     requires settled { IsTrue (state S.Store conn.old).is_open
@@ -88,16 +88,16 @@ pub fn find<S: Alter, O: OpensPast>(
     alloc: Global,
     pasts: &O,
     site: &Site,
-) -> Result<Finding<O::Past>, LedgerFault>
+) -> Result<FoundBehind<O::Past>, LedgerFault>
     requires { conn.old.in_transaction ≡ false }
     ensures { AreTold O.Past.LedgerPast (O.opens pasts.now) site.now result
         (state S.Store conn.old) (state S.Store conn.new) }
 {
     if !is_ours(conn.schema()) {
-        return Ok(Finding::OtherSite);
+        return Ok(FoundBehind::OtherSite);
     }
     if !conn.is_autocommit() {
-        return Ok(Finding::OtherSite);
+        return Ok(FoundBehind::OtherSite);
     }
     find_tested(conn, alloc, pasts, site)
 }
@@ -200,11 +200,11 @@ pub fn find_ledger<S: Alter, F: DataFile, O: OpensPast>(
     ensures there { IfErr result (λ fault. fault ≢ opening.DataIsThere) }
 {
     match find(conn, alloc, pasts, site) {
-        Ok(Finding::Tables(found, past)) => {
+        Ok(FoundBehind::Tables(found, past)) => {
             open_found(conn, alloc, data, made, site, found, past)
         }
-        Ok(Finding::OtherSite) => Err(OpeningFault::OtherSite),
-        Ok(Finding::Lost(number)) => Err(OpeningFault::LostPast(number)),
+        Ok(FoundBehind::OtherSite) => Err(OpeningFault::OtherSite),
+        Ok(FoundBehind::Lost(number)) => Err(OpeningFault::LostPast(number)),
         Err(fault) => Err(opening_fault(fault)),
     }
 }
