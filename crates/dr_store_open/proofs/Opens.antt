@@ -224,6 +224,10 @@ module _ {D : Type 0} {g : Ghosts D} where
   })
   opened_own place shelf db prints (Err fault) are is cells same tested = tt
 
+-- a past that counts no line is trusted
+none_trusted : {P : Type 0} (l : PastGhosts P) (Opens : Seal → P → Type 0) (part : Part) (db : Trees) (it : P) → (l.reach it).count ≡ 0 → IsPastOf l Opens db it → IsTrusted l part db it
+none_trusted l Opens part db it none of = λ some. absurd (let same = ap (λ (s : Seal). s.count) of.reach in omega (arith, none, same, some))
+
 -- ---- a ledger that was found with its shelf
 
 module _ {D P : Type 0} {g : Ghosts D} (l : PastGhosts P) (Opens : Seal → P → Type 0) where
@@ -292,7 +296,7 @@ module _ {D P : Type 0} {g : Ghosts D} (l : PastGhosts P) (Opens : Seal → P �
       early clean = omega (arith, s.looks.clean, clean)
 
   pub whole_none : (part : Part) (old new : State) → AreTold l Opens part (Ok finding.OtherSite) old new
-      → IsWholeOpened {D = D} {d = g} l Opens (Unit {0}) part (Err opening.OtherSite) old new
+      → IsWholeOpened l Opens {D = D} {d = g} (Unit {0}) part (Err opening.OtherSite) old new
   whole_none part old new f = record {
     has = tt;
     ready = λ clean. tt;
@@ -312,7 +316,7 @@ module _ {D P : Type 0} {g : Ghosts D} (l : PastGhosts P) (Opens : Seal → P �
       apart number e = cc
 
   pub whole_lost : (part : Part) (old new : State) (number : ℕ) → AreTold l Opens part (Ok (finding.Lost number)) old new
-      → IsWholeOpened {D = D} {d = g} l Opens (Unit {0}) part (Err (opening.LostPast number)) old new
+      → IsWholeOpened l Opens {D = D} {d = g} (Unit {0}) part (Err (opening.LostPast number)) old new
   whole_lost part old new number f = record {
     has = tt;
     ready = λ clean. tt;
@@ -333,7 +337,7 @@ module _ {D P : Type 0} {g : Ghosts D} (l : PastGhosts P) (Opens : Seal → P �
 
   pub whole_failed : (part : Part) (old new : State) (why : LedgerFault) (fault : OpeningFault) → AreTold l Opens part (Err why) old new
       → fault ≢ opening.OtherSite → (IsOfFiles fault → ⊥)
-      → IsWholeOpened {D = D} {d = g} l Opens (Unit {0}) part (Err fault) old new
+      → IsWholeOpened l Opens {D = D} {d = g} (Unit {0}) part (Err fault) old new
   whole_failed part old new why fault f other beside = record {
     has = tt;
     ready = λ clean. tt;
@@ -388,8 +392,8 @@ module _ {D P : Type 0} {g : Ghosts D} (l : PastGhosts P) (Opens : Seal → P �
   }
 
   pub whole_refused : (Stood : Type 0) (part : Part) (old new : State) (fault : OpeningFault)
-      → IsWholeOpened {D = D} {d = g} l Opens (Unit {0}) part (Err fault) old new
-      → IsWholeOpened {D = D} {d = g} l Opens Stood part (Err fault) old new
+      → IsWholeOpened l Opens {D = D} {d = g} (Unit {0}) part (Err fault) old new
+      → IsWholeOpened l Opens {D = D} {d = g} Stood part (Err fault) old new
   whole_refused Stood part old new fault w = record { has = tt; ready = λ clean. tt; past = λ clean. tt; kept = λ clean. tt; placed = λ clean. tt; own = λ clean. tt; why = λ is. w.why tt; looks = w.looks }
 
   pub is_made : (made : Bool) (keeping : Keeping) (opened : OpenedLedger D P g) (r : Result (OpenedLedger D P g) OpeningFault) → made ≡ true
@@ -412,10 +416,6 @@ module _ {D P : Type 0} {g : Ghosts D} (l : PastGhosts P) (Opens : Seal → P �
     where
       apart : opening.OtherSite ≡ opening.DataIsThere → ⊥
       apart e = cc
-
-  -- a past that counts no line is trusted
-  pub none_trusted : (part : Part) (db : Trees) (it : P) → (l.reach it).count ≡ 0 → IsPastOf l Opens db it → IsTrusted l part db it
-  none_trusted part db it none of = λ some. absurd (let same = ap (λ (s : Seal). s.count) of.reach in omega (arith, none, same, some))
 
   -- ---- an opening as a whole: first what was made or brought over, and then what was found
 
@@ -474,7 +474,7 @@ module _ {D P : Type 0} {g : Ghosts D} (l : PastGhosts P) (Opens : Seal → P �
     made_of stays leaves keeping (Ok it) w m = λ clean blank. elim (cases_Bool made) [
       | inl was ↦ (
           let early : HasCleanDisk mid = omega (arith, w.looks.clean, clean) in
-          let trusted = none_trusted part new.committed.trees it.past (m was).none (w.past clean) in
+          let trusted = none_trusted l Opens part new.committed.trees it.past (m was).none (w.past clean) in
           new_ledger (past_of l.all_lines new.committed.trees) it.next part old mid new (w.ready clean) (w.kept clean trusted) (w.looks.leaves clean) (m was).first (leaves early)
           )
       | inr stood ↦ absurd ((stays stood).0 blank)

@@ -23,10 +23,10 @@ returns-in-Err g c =
     let Opens = g.O.OpensPast.opens c.args.pasts.now in
     let old = state g.S.Store c.args.conn.now in
     let db = old.now.trees in
-    let Shows : FoundBehind g.O.Past → Type 0 = λ found. IsPlaceOf part db place → seal ≡ seal_in db → IsFinding L Opens part db found in
+    let Shows : FoundBehind g.row.O-Past.Denot → Type 0 = λ found. IsPlaceOf part db place → seal ≡ seal_in db → IsFinding L Opens part db found in
     record {
       seen = not_asked {Asks = IsLedger} old c.unopened.result Shows
-          (subst (λ (r : Result (FoundBehind g.O.Past) LedgerFault). Reads r Shows) (sym c.unopened.ensures)
+          (subst (λ (r : Result (FoundBehind g.row.O-Past.Denot) LedgerFault). Reads r Shows) (sym c.unopened.ensures)
           (refused L part db Opens seal place c.in-Err.fault c.in-Err.ensures.none c.in-Err.ensures.lost));
     }
 
@@ -43,7 +43,7 @@ returns-in-Ok-Some g c =
     let new = state g.S.Store c.find_lists.new.conn in
     let db = old.now.trees in
     let Lists : Option FoundTables → Type 0 = AreListedBehind it.begun part place db in
-    let Shows : FoundBehind g.O.Past → Type 0 = λ found. IsPlaceOf part db place → seal ≡ seal_in db → IsFinding L Opens part db found in
+    let Shows : FoundBehind g.row.O-Past.Denot → Type 0 = λ found. IsPlaceOf part db place → seal ≡ seal_in db → IsFinding L Opens part db found in
     let is : c.in-Ok-Some.field-0 ≡ Some found = search rules in
     record {
       seen = as_seen old new (Ok (finding.Tables found it.past)) Shows
@@ -64,7 +64,7 @@ returns-in-Ok-None g c =
     let new = state g.S.Store c.find_lists.new.conn in
     let db = old.now.trees in
     let Lists : Option FoundTables → Type 0 = AreListedBehind it.begun part place db in
-    let Shows : FoundBehind g.O.Past → Type 0 = λ found. IsPlaceOf part db place → seal ≡ seal_in db → IsFinding L Opens part db found in
+    let Shows : FoundBehind g.row.O-Past.Denot → Type 0 = λ found. IsPlaceOf part db place → seal ≡ seal_in db → IsFinding L Opens part db found in
     let is : c.in-Ok-None.field-0 ≡ None = search rules in
     record {
       seen = as_seen old new (Ok finding.OtherSite) Shows
@@ -84,7 +84,7 @@ returns-in-Err-find_lists g c =
     let new = state g.S.Store c.find_lists.new.conn in
     let db = old.now.trees in
     let Lists : Option FoundTables → Type 0 = AreListedBehind c.in-Ok.it.begun part place db in
-    let Shows : FoundBehind g.O.Past → Type 0 = λ found. IsPlaceOf part db place → seal ≡ seal_in db → IsFinding L Opens part db found in
+    let Shows : FoundBehind g.row.O-Past.Denot → Type 0 = λ found. IsPlaceOf part db place → seal ≡ seal_in db → IsFinding L Opens part db found in
     record {
       seen = as_seen old new _ Shows (asked_failed {Asks = IsLedger} old new c.in-Err-find_lists.fault Lists Shows c.in-Err-find_lists.ensures.asked);
     }

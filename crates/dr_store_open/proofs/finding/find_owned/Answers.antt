@@ -25,7 +25,7 @@ returns-in-Ok-Some g c =
     let new = state g.S.Store c.find_behind.new.conn in
     let is : c.in-Ok-Some.field-0 ≡ Some (place, seal) = search rules in
     let One : Database → Option (DataPlace × Seal) → Type 0 = λ db o. IsSaidIf part db.trees o in
-    let Two : Database → FoundBehind g.O.Past → Type 0 = λ db found. IsPlaceOf part db.trees place → seal ≡ seal_in db.trees → IsFinding L Opens part db.trees found in
+    let Two : Database → FoundBehind g.row.O-Past.Denot → Type 0 = λ db found. IsPlaceOf part db.trees place → seal ≡ seal_in db.trees → IsFinding L Opens part db.trees found in
     record {
       asked = asked_then {Asks = IsLedger} {More = IsLedger} old mid new c.in-Ok-Some.field-0 c.find_behind.result One Two (λ db found. IsFinding L Opens part db.trees found) (λ is_open has one. has)
           (λ db one y two. let said = subst (IsSaidIf part db.trees) is one in two said.0 said.1) c.in-Ok-Some.ensures.asked c.find_behind.ensures.seen;

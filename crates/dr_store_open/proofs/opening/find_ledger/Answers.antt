@@ -13,7 +13,7 @@ pub open_found-requires-clause-ready : goal.open_found-requires-clause-ready
 open_found-requires-clause-ready g c clean =
     let old = state g.S.Store c.args.conn.now in
     let mid = state g.S.Store c.find.new.conn in
-    let If : FoundBehind g.O.Past → Type 0 = λ o. AreTold g.O.Past.LedgerPast (g.O.OpensPast.opens c.args.pasts.now) c.args.site.now (Ok o) old mid in
+    let If : FoundBehind g.row.O-Past.Denot → Type 0 = λ o. AreTold g.O.Past.LedgerPast (g.O.OpensPast.opens c.args.pasts.now) c.args.site.now (Ok o) old mid in
     let f : If (finding.Tables c.in-Ok-Tables.found c.in-Ok-Tables.past) = subst If c.in-Ok-Tables.field-0-is c.in-Ok-Tables.ensures in
     (f.ready clean).ready
 
@@ -21,7 +21,7 @@ pub open_found-requires-clause-are : goal.open_found-requires-clause-are
 open_found-requires-clause-are g c clean =
     let old = state g.S.Store c.args.conn.now in
     let mid = state g.S.Store c.find.new.conn in
-    let If : FoundBehind g.O.Past → Type 0 = λ o. AreTold g.O.Past.LedgerPast (g.O.OpensPast.opens c.args.pasts.now) c.args.site.now (Ok o) old mid in
+    let If : FoundBehind g.row.O-Past.Denot → Type 0 = λ o. AreTold g.O.Past.LedgerPast (g.O.OpensPast.opens c.args.pasts.now) c.args.site.now (Ok o) old mid in
     let f : If (finding.Tables c.in-Ok-Tables.found c.in-Ok-Tables.past) = subst If c.in-Ok-Tables.field-0-is c.in-Ok-Tables.ensures in
     subst (λ (d : Database). AreOf c.args.site.now d.trees c.in-Ok-Tables.found) (sym (f.ready clean).ready.settled) (f.are clean).are
 
@@ -32,7 +32,7 @@ returns-in-Ok-Tables-clause-whole g c =
     let old = state g.S.Store c.args.conn.now in
     let mid = state g.S.Store c.find.new.conn in
     let new = state g.S.Store c.open_found.new.conn in
-    let If : FoundBehind g.O.Past → Type 0 = λ o. AreTold L Opens c.args.site.now (Ok o) old mid in
+    let If : FoundBehind g.row.O-Past.Denot → Type 0 = λ o. AreTold L Opens c.args.site.now (Ok o) old mid in
     let f : If (finding.Tables c.in-Ok-Tables.found c.in-Ok-Tables.past) = subst If c.in-Ok-Tables.field-0-is c.in-Ok-Tables.ensures in
     let it = c.open_found.ensures in
     whole_found L Opens c.args.site.now old mid new c.in-Ok-Tables.found c.in-Ok-Tables.past c.open_found.result f it.ready it.next it.past it.placed it.own it.why
@@ -55,7 +55,7 @@ returns-in-Ok-OtherSite-clause-whole g c =
     let Opens = g.O.OpensPast.opens c.args.pasts.now in
     let old = state g.S.Store c.args.conn.now in
     let new = state g.S.Store c.find.new.conn in
-    let If : FoundBehind g.O.Past → Type 0 = λ o. AreTold L Opens c.args.site.now (Ok o) old new in
+    let If : FoundBehind g.row.O-Past.Denot → Type 0 = λ o. AreTold L Opens c.args.site.now (Ok o) old new in
     whole_none L Opens c.args.site.now old new (subst If c.in-Ok-OtherSite.field-0-is c.in-Ok-OtherSite.ensures)
 
 pub returns-in-Ok-Lost-clause-whole : goal.returns-in-Ok-Lost-clause-whole
@@ -64,7 +64,7 @@ returns-in-Ok-Lost-clause-whole g c =
     let Opens = g.O.OpensPast.opens c.args.pasts.now in
     let old = state g.S.Store c.args.conn.now in
     let new = state g.S.Store c.find.new.conn in
-    let If : FoundBehind g.O.Past → Type 0 = λ o. AreTold L Opens c.args.site.now (Ok o) old new in
+    let If : FoundBehind g.row.O-Past.Denot → Type 0 = λ o. AreTold L Opens c.args.site.now (Ok o) old new in
     whole_lost L Opens c.args.site.now old new c.in-Ok-Lost.number (subst If c.in-Ok-Lost.field-0-is c.in-Ok-Lost.ensures)
 
 pub returns-in-Err-clause-whole : goal.returns-in-Err-clause-whole

@@ -19,8 +19,8 @@ returns-in-Ok g c =
     let mid = state g.S.Store c.test_tables.new.conn in
     let new = state g.S.Store c.find_owned.new.conn in
     let One : Database → Unit {0} → Type 0 = λ db done. AreTested db.trees in
-    let Two : Database → FoundBehind g.O.Past → Type 0 = λ db found. IsFinding L Opens part db.trees found in
-    let Both : Database → FoundBehind g.O.Past → Type 0 = λ db found. AreTested db.trees × IsFinding L Opens part db.trees found in
+    let Two : Database → FoundBehind g.row.O-Past.Denot → Type 0 = λ db found. IsFinding L Opens part db.trees found in
+    let Both : Database → FoundBehind g.row.O-Past.Denot → Type 0 = λ db found. AreTested db.trees × IsFinding L Opens part db.trees found in
     opened L Opens part old new c.requires.schema c.requires.live c.requires.settled r
     (asked_then {Asks = HasTables} {More = IsLedger} old mid new c.in-Ok.field-0 r One Two Both
     (λ is_open has test. record { schema = has; sound = (c.requires.live is_open).0; items = test.items; prints = test.prints; arrivals = test.arrivals; queue = test.queue; counted = test.counted })
@@ -34,5 +34,5 @@ returns-in-Err g c =
     let old = state g.S.Store c.args.conn.now in
     let new = state g.S.Store c.test_tables.new.conn in
     let One : Database → Unit {0} → Type 0 = λ db done. AreTested db.trees in
-    let Both : Database → FoundBehind g.O.Past → Type 0 = λ db found. AreTested db.trees × IsFinding L Opens part db.trees found in
+    let Both : Database → FoundBehind g.row.O-Past.Denot → Type 0 = λ db found. AreTested db.trees × IsFinding L Opens part db.trees found in
     opened L Opens part old new c.requires.schema c.requires.live c.requires.settled _ (asked_failed {Asks = HasTables} old new c.in-Err.fault (One old.now) (Both old.now) c.in-Err.ensures.asked)

@@ -44,4 +44,4 @@ returns-in-Err-clause-ready g c =
     ready_failed c.args.found.now.next old new c.in-Err.fault c.opening_fault.result _ c.requires c.in-Err.ensures.seen
 
 pub returns-in-Err-clause-why : goal.returns-in-Err-clause-why
-returns-in-Err-clause-why g c = (c.opening_fault.ensures.other, λ e. c.opening_fault.ensures.of_data (subst IsOfFiles (sym e) tt))
+returns-in-Err-clause-why g c = (c.opening_fault.ensures.other, λ e. c.opening_fault.ensures.of_data (subst IsOfFiles (sym e) tt), c.opening_fault.ensures.past)
