@@ -345,15 +345,7 @@ fn stored_ledger<S: Alter>(
     ensures shelf { result.shelf.0 ≡ opened.shelf }
 {
     let OpenedLedger { shelf, past, next } = opened;
-    SqlLedger::of(
-        alloc,
-        conn,
-        FileShelf(shelf),
-        past,
-        site,
-        next,
-        now,
-    )
+    SqlLedger::of(alloc, conn, FileShelf(shelf), past, site, next, now)
 }
 
 /// The ledger of a site over a connection to its database, beside which is the file of its data

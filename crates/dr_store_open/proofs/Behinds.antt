@@ -103,8 +103,11 @@ module _ {P : Type 0} (g : Ghosts P) (part : Part) (db : Trees) where
         → IsSoBehind g Opens db (AreNone g part db)
     none_listed seal it begun place opened has listed is =
         let Has : Seal → Type 0 = λ s. (0 < s.count → g.is_clean it) → HasBegun (past_in g.all_lines s) begun in
-        inr (it, subst (λ (s : Seal). IsOpened g (Opens s) it) is opened,
-        λ shown n all owned count. listed.agreed past (subst Has is has shown) n all)
+        inr (
+          it,
+          subst (λ (s : Seal). IsOpened g (Opens s) it) is opened,
+          λ shown n all owned count. listed.agreed past (subst Has is has shown) n all,
+        )
 
     -- why no past was opened
     none_opened : (seal : Seal) → IsNone g (Opens seal) seal → seal ≡ seal_in db → IsSoBehind g Opens db (AreNone g part db)

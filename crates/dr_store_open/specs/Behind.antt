@@ -40,8 +40,8 @@ finding_by seal refusal.Lost = Ok (finding.Lost seal.number)
 finding_by seal refusal.Store = Err failed.Store
 finding_by seal refusal.Memory = Err failed.Memory
 
--- a file of the past of these tables is lost, the one of this number: their seal counts a line, which
--- is the last in that file
+-- a file of the past of these tables is lost, the one of this number: their seal counts a line,
+-- which is the last in that file
 abbrev pub IsLost : ℕ → Trees → Type 0
 IsLost number db = (number ≡ (seal_in db).number) × (0 < (seal_in db).count)
 
@@ -114,17 +114,17 @@ module _ {P : Type 0} (g : Ghosts P) (Opens : Seal → P → Type 0) where
   -- have, they stand ready, and are that ledger's; where they are another's, the file has no ledger
   -- of this site.
   pub record AreTold (part : Part) (result : Result (FoundBehind P) LedgerFault) (old new : State)
-    : Type 0 where
-      pub has : IfTables result (λ found it. old.now.schema ≡ tables)
-      pub ready : HasCleanDisk new
-          → IfTables result (λ found it. AreFoundReady found.next part old new)
-      pub are : HasCleanDisk new → IfTables result (AreTablesOf part new.committed.trees)
-      pub was : HasCleanDisk new → IfTables result (λ found it. old.now ≡ new.committed)
-      pub is_not : HasCleanDisk new
-          → IfOther result (IsSoBehind old.now.trees
-          (HasNoLedgerOf (past_of g.all_lines old.now.trees) part old.now))
-      pub lost : HasCleanDisk new → IfLost result (λ number. IsLost number old.now.trees)
-      pub looks : OnlyLooks old new
+      : Type 0 where
+    pub has : IfTables result (λ found it. old.now.schema ≡ tables)
+    pub ready : HasCleanDisk new
+        → IfTables result (λ found it. AreFoundReady found.next part old new)
+    pub are : HasCleanDisk new → IfTables result (AreTablesOf part new.committed.trees)
+    pub was : HasCleanDisk new → IfTables result (λ found it. old.now ≡ new.committed)
+    pub is_not : HasCleanDisk new
+        → IfOther result (IsSoBehind old.now.trees
+        (HasNoLedgerOf (past_of g.all_lines old.now.trees) part old.now))
+    pub lost : HasCleanDisk new → IfLost result (λ number. IsLost number old.now.trees)
+    pub looks : OnlyLooks old new
 
   -- Why a file's ledger isn't opened. It has none of this site, or one whose data sets are in rows,
   -- and not each is that of its item. Or it is a fault of the file of its data sets, which comes

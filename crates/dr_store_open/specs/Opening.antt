@@ -319,8 +319,8 @@ LedgersAreOne =
     → HasLedgerOf past n part db → HasLedgerOf past m other db
     → (n ≡ m) × (part.name ≡ other.name) × (part.digest ≡ other.digest)
 
--- Without an owner, with other bytes behind a plan's SHA-256 than those of a mark and a seal, with a
--- seal that counts another number of lines than its past has, or with a line under another number
+-- Without an owner, with other bytes behind a plan's SHA-256 than those of a mark and a seal, with
+-- a seal that counts another number of lines than its past has, or with a line under another number
 -- than its place behind the past, there is none.
 pub record BadTablesAreNone : Type 0 where
   pub unowned : (past : List Line) (part : Part) (db : Database)

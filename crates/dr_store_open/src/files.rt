@@ -30,8 +30,9 @@ use sqlite_disk::Disk;
 use std::alloc::Global;
 
 /// The connection to a database in two files, its log and itself, with this site's ledger, as `on`
-/// finds it, with all its lines in its tables. Where they hold a database with a ledger's tables, the ledger is that one. Where the
-/// database's file is empty, it is a new one, with its data sets where they are wanted.
+/// finds it, with all its lines in its tables. Where they hold a database with a ledger's tables,
+/// the ledger is that one. Where the database's file is empty, it is a new one, with its data sets
+/// where they are wanted.
 ///
 /// Errors: OtherSite; NoData; DataIsThere; InUse; Store; Memory.
 pub fn open_files<D: Disk + Drop, F: DataFile>(
@@ -80,7 +81,13 @@ pub fn open_path<T: Start, F: DataFile>(
     data: &F,
     keeping: Keeping,
     site: &Site,
-) -> Result<(Connection<FileStore<FileFrom<T>>>, OpenedLedger<F::Disk, NoPast>), OpeningFault>
+) -> Result<
+    (
+        Connection<FileStore<FileFrom<T>>>,
+        OpenedLedger<F::Disk, NoPast>,
+    ),
+    OpeningFault,
+>
     ensures is { IfOk result (λ it. HasCleanDisk (file_state it.0)
         → HasLedgerOf [] it.1.next site.now (file_state it.0).committed) }
     ensures found { IfOk result (λ it. HasCleanDisk (file_state it.0)

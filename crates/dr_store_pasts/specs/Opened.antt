@@ -14,8 +14,8 @@ module _ {P : Type 0} (g : Ghosts P) where
     pub opened : Opens before
     pub read : IsOnlyRead g before it
 
-  -- behind some reading that is so, the lines up to that seal, which counts some, are no history of a
-  -- ledger, if what is shown is the past
+  -- behind some reading that is so, the lines up to that seal, which counts some, are no history of
+  -- a ledger, if what is shown is the past
   pub record IsNoHistory (Reads : P → Type 0) (seal : Seal) : Type 0 where
     pub last : P
     pub read : Reads last

@@ -35,7 +35,7 @@ pub returns-in-Ok-clause-is : goal.returns-in-Ok-clause-is
 returns-in-Ok-clause-is g c =
     if_ok_both _ _ _ c.on.result
     (λ it kept of clean.
-        let db = (file_state it.0).committed in
-        subst (λ (past : List Line). HasLedgerOf past it.1.next c.args.site.now db) (no_past_of db.trees)
-        (kept clean (λ some. absurd (none_counted (seal_in db.trees) (of clean).reach some))).ledger)
+    let db = (file_state it.0).committed in
+    subst (λ (past : List Line). HasLedgerOf past it.1.next c.args.site.now db) (no_past_of db.trees)
+    (kept clean (λ some. absurd (none_counted (seal_in db.trees) (of clean).reach some))).ledger)
     c.on.ensures.kept c.on.ensures.past
