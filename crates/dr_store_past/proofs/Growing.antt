@@ -1,235 +1,285 @@
--- Lines that are written page by page.
-use Rattle.std.proofs.Common.{◌≡◌, ◌+◌, ◌^◌, ◌<◌, ◌≤◌, ℕ, List, ◌++◌, length, take, drop, All, IsTrue}
-use Rattle.std.proofs.Common.{sym, ◌∙◌, ap, subst, arith, length-drop, length-take}
-use Rattle.std.proofs.lemmas.List.{take-take, take_all}
-use Rattle.std.proofs.lemmas.List.Elements.{All-append, All-drop, All-take}
+-- Lines that are written page by page and file by file.
+use Rattle.std.proofs.Common.{◌≡◌, ◌+◌, ◌<◌, ◌≤◌, ◌⊎◌, ℕ, List, [], ◌∷◌, ◌++◌, length, take, All, IsTrue, slice_index_or}
+use Rattle.std.proofs.Common.{refl, sym, ◌∙◌, ap, subst, inl, inr, arith, length-take, get_or-take}
+use Rattle.std.proofs.lemmas.Bool.{cases_lt}
+use Rattle.std.proofs.lemmas.List.{append-nil, get_or_append_left, get_or-map, length-append, take-take}
 use Rattle.sqlite_disk.specs.declared.Disk.{Ghosts}
-use Rattle.sqlite_disk.specs.Disk.{MoreFaults}
-use Rattle.dr_store_sealed.specs.declared.fault.SealFault.{SealFault}
-use Rattle.dr_store_sealed.specs.declared.fault.SealFault.TheVariants as fault
+use Rattle.sqlite_disk.specs.Disk.{Holds}
 use Rattle.dr_store_sealed.specs.declared.seal.Seal.{Seal}
-use Rattle.dr_store_sealed.specs.Files.{Endures, Spans}
-use Rattle.dr_store_sealed.specs.Lines.{IsOneLine}
-use Rattle.dr_store_sealed.proofs.SealLemmas.{reaches, spans_more}
-use Rattle.dr_store_past.specs.declared.lines.PastLine.{PastLine}
-use Rattle.dr_store_past.specs.Lines.{FitsPast, texts_behind}
-use Rattle.dr_store_past.specs.Refusals.{FillsFile, IsWhyNotSealed}
-use Rattle.dr_store_past.specs.Shown.{HasWrittenIn}
-use Rattle.dr_store_past.proofs.Pages.{both_taken}
-use Rattle.dr_store_past.proofs.Shows.{written_kept, written_more}
-use Rattle.dr_store_past.proofs.Told.{texts_drop, texts_take}
+use Rattle.dr_store_line_files.specs.Filed.{AreFiled, EntryEndures, HasEntryAt, HaveLines, InDisks, InFiles, KeepLines, place_behind}
+use Rattle.dr_store_sealed.specs.Files.{Endures}
+use Rattle.dr_store_sealed.specs.Seals.{full}
+use Rattle.dr_store_line_files.specs.Several.{AreClean, KeepsFile, KeepsFiles, all_shown}
+use Rattle.dr_store_line_files.proofs.Filing.{IsUpTo, behind_full, behind_other, filed_kept, filed_unturned}
+use Rattle.dr_store_line_files.proofs.Kept.{same_file, then_kept}
 
--- the first of the first
-take_shortened : {X : Type 0} (n more : ℕ) (page rest : List X) → page ≡ take more rest
-    → take n page ≡ take (length (take n page)) rest
-take_shortened {X} n more page rest is =
-    let cut = length-take n page in
-    let all : length page ≡ length (take more rest) = ap (λ (l : List X). length l) is in
-    let size = length-take more rest in
-    sym (take_all (length (take n page)) (take n page) (omega arith))
-    ∙ take-take (length (take n page)) n page (omega (arith, cut))
-    ∙ ap (take (length (take n page))) is
-    ∙ take-take (length (take n page)) more rest (omega (arith, cut, all, size))
+-- ---- places
 
--- so many of the lines are written behind the seal, up to another one
-pub record AreIn {D : Type 0} (g : Ghosts D) (from : Seal) (lines : List PastLine) (done : ℕ) (first file : D) (last : Seal) : Type 0 where
-  pub written : HasWrittenIn (g.seen file) (g.may_leave file) from (take done lines) last
-  pub one : All IsOneLine (texts_behind from.count (take done lines))
-  pub fit : All FitsPast (take done lines)
-  pub number : last.count ≡ from.count + done
-  pub counted : last.count < 2 ^ 64
-  pub within : done ≤ length lines
-  pub same : IsTrue (g.is_clean file) → take from.offset (g.seen file) ≡ take from.offset (g.seen first)
-  pub keeps : (at : ℕ) (kept : List ℕ) → at + length kept ≤ from.offset
-      → Endures (g.seen first) (g.may_leave first) at kept → Endures (g.seen file) (g.may_leave file) at kept
-  pub clean : IsTrue (g.is_clean file) → IsTrue (g.is_clean first)
-  pub usable : IsTrue (g.is_usable file)
-  pub faults : g.faults file ≡ g.faults first
+abbrev pub Above : Seal → Seal → Type 0
+Above p q = IsUpTo p.number p.offset q
 
-module _ {D : Type 0} (g : Ghosts D) (from : Seal) (lines : List PastLine) (done : ℕ) (first file : D) (at : Seal)
-    (was : AreIn g from lines done first file at) where
-  onward : from.offset ≤ at.offset
-  onward = let place = reaches from at (texts_behind from.count (take done lines)) was.written.spans in omega (arith, place)
+-- where the next lines begin rises with the seal
+pub places_up : (from at : Seal) → Above from at → Above (place_behind from) (place_behind at)
+places_up from at up =
+    elim (cases_lt from.offset full) [
+      | inl low ↦
+          let one = behind_other from low in
+          elim (cases_lt at.offset full) [
+            | inl room ↦ subst (λ p. Above p (place_behind at)) (sym one) (subst (Above from) (sym (behind_other at room)) up)
+            | inr over ↦
+                let other = ap (λ (s : Seal). s.number) (behind_full at over) in
+                subst (λ p. Above p (place_behind at)) (sym one)
+                (inl (elim up [
+                  | inl less ↦ omega (arith, less, other)
+                  | inr same ↦ let e = same.0 in omega (arith, e, other)
+                ]))
+          ]
+      | inr large ↦
+          let number = ap (λ (s : Seal). s.number) (behind_full from large) in
+          let offset = ap (λ (s : Seal). s.offset) (behind_full from large) in
+          elim (cases_lt at.offset full) [
+            | inl room ↦
+                let n = ap (λ (s : Seal). s.number) (behind_other at room) in
+                elim up [
+                  | inl less ↦
+                      elim (cases_lt (from.number + 1) at.number) [
+                        | inl more ↦ inl (omega (arith, number, n, more))
+                        | inr same ↦ inr (omega (arith, number, n, same, less), omega (arith, offset))
+                      ]
+                  | inr same ↦ let e = same.1 in absurd (omega (arith, e, large, room))
+                ]
+            | inr over ↦
+                let n = ap (λ (s : Seal). s.number) (behind_full at over) in
+                elim up [
+                  | inl less ↦ inl (omega (arith, number, n, less))
+                  | inr same ↦ let e = same.0 in inr (omega (arith, number, n, e), omega (arith, offset))
+                ]
+          ]
+    ]
 
-  pub reaches_on : at.offset ≤ length (g.seen file)
-  reaches_on =
-      let place = reaches from at (texts_behind from.count (take done lines)) was.written.spans in
-      let within = was.written.endures.now.within in
-      omega (arith, place, within)
+pub above_itself : (p : Seal) → Above p p
+above_itself p = inr (refl, omega arith)
 
-  -- what is before the first seal stays through it
-  pub keeps_more : (new : D)
-      → ((place : ℕ) (kept : List ℕ) → place + length kept ≤ at.offset
-      → Endures (g.seen file) (g.may_leave file) place kept → Endures (g.seen new) (g.may_leave new) place kept)
-      → (place : ℕ) (kept : List ℕ) → place + length kept ≤ from.offset
-      → Endures (g.seen first) (g.may_leave first) place kept → Endures (g.seen new) (g.may_leave new) place kept
-  keeps_more new keeps place kept below it =
-      let up = onward in
-      keeps place kept (omega (arith, below, up)) (was.keeps place kept below it)
+pub filed_unplaced : (Has : ℕ → ℕ → List ℕ → Type 0) (s : Seal) (xs : List (List ℕ)) → AreFiled Has (place_behind s) xs → AreFiled Has s xs
+filed_unplaced Has s [] filed = tt
+filed_unplaced Has s (x ∷ xs) filed =
+    elim (cases_lt s.offset full) [
+      | inl low ↦ subst (λ p. AreFiled Has p (x ∷ xs)) (behind_other s low) filed
+      | inr over ↦ filed_unturned Has s x xs over (subst (λ p. AreFiled Has p (x ∷ xs)) (behind_full s over) filed)
+    ]
 
-  pub same_more : (new : D) → (IsTrue (g.is_clean new) → take at.offset (g.seen new) ≡ take at.offset (g.seen file))
-      → (IsTrue (g.is_clean new) → IsTrue (g.is_clean file))
-      → IsTrue (g.is_clean new) → take from.offset (g.seen new) ≡ take from.offset (g.seen first)
-  same_more new same clean told =
-      let up = onward in
-      sym (take-take from.offset at.offset (g.seen new) up)
-      ∙ ap (take from.offset) (same told)
-      ∙ take-take from.offset at.offset (g.seen file) up
-      ∙ was.same (clean told)
+-- ---- a line in files that are alike
 
-  module _ (more : ℕ) (page : List PastLine) (is : page ≡ take more (drop done lines)) (low : done + more ≤ length lines) where
-    abbrev texts : List (List ℕ)
-    texts = texts_behind from.count lines
+-- both are the same, or they are up to where the line ends, where the file has room
+abbrev AreAlike : List ℕ → List ℕ → ℕ → Type 0
+AreAlike file other end = (file ≡ other) ⊎ ((o : ℕ) × (end ≤ o) × (o < full) × (take o file ≡ take o other))
 
-    place_is : at.count ≡ from.count + done
-    place_is = was.number
+turned_same : {file other : List ℕ} {end : ℕ} → AreAlike file other end → AreAlike other file end
+turned_same like =
+    elim like [
+      | inl same ↦ inl (sym same)
+      | inr part ↦ inr (part.0, part.1, part.2, sym part.3)
+    ]
 
-    size : length page ≡ more
-    size = ap (λ (l : List PastLine). length l) is ∙ (let cut = length-take more (drop done lines) in let left = length-drop done lines in omega (arith, cut, left, low))
-
-    page_texts : texts_behind at.count page ≡ take more (drop done texts)
-    page_texts =
-        ap (λ k. texts_behind k page) place_is ∙ ap (texts_behind (from.count + done)) is
-        ∙ sym (texts_take (from.count + done) more (drop done lines))
-        ∙ ap (take more) (sym (texts_drop from.count done lines))
-
-    first_texts : texts_behind from.count (take done lines) ≡ take done texts
-    first_texts = sym (texts_take from.count done lines)
-
-    whole : take done lines ++ page ≡ take (done + more) lines
-    whole = ap (λ ls. take done lines ++ ls) is ∙ both_taken done more lines
-
-    texts_whole : texts_behind from.count (take done lines) ++ texts_behind at.count page ≡ texts_behind from.count (take (done + more) lines)
-    texts_whole =
-        ap (λ ls. ls ++ texts_behind at.count page) first_texts
-        ∙ ap (λ ls. take done texts ++ ls) page_texts
-        ∙ both_taken done more texts ∙ texts_take from.count (done + more) lines
-
-    -- a page more
-    pub page_more : (new : D) (last : Seal)
-        → HasWrittenIn (g.seen new) (g.may_leave new) at page last
-        → All IsOneLine (texts_behind at.count page) → All FitsPast page
-        → last.count ≡ at.count + length page → last.count < 2 ^ 64
-        → (IsTrue (g.is_clean new) → take at.offset (g.seen new) ≡ take at.offset (g.seen file))
-        → ((place : ℕ) (kept : List ℕ) → place + length kept ≤ at.offset
-        → Endures (g.seen file) (g.may_leave file) place kept → Endures (g.seen new) (g.may_leave new) place kept)
-        → (IsTrue (g.is_clean new) → IsTrue (g.is_clean file))
-        → IsTrue (g.is_usable new) → g.faults new ≡ g.faults file
-        → AreIn g from lines (done + more) first new last
-    page_more new last written one fit number counted same keeps clean usable faults =
-        record {
-          written =
-              subst (λ ls. HasWrittenIn (g.seen new) (g.may_leave new) from ls last) whole
-              (written_more (g.seen new) (g.may_leave new) from at (take done lines) page last
-              (let n : length (take done lines) ≡ done = (let cut = length-take done lines in omega (arith, cut, low)) in omega (arith, n, place_is))
-              (written_kept (g.seen file) (g.seen new) (g.may_leave file) (g.may_leave new) at.offset from (take done lines) at (omega arith) keeps was.written)
-              written);
-          one = subst (All IsOneLine) texts_whole (All-append IsOneLine (texts_behind from.count (take done lines)) (texts_behind at.count page) was.one one);
-          fit = subst (All FitsPast) whole (All-append FitsPast (take done lines) page was.fit fit);
-          number = omega (arith, number, place_is, size);
-          counted = counted;
-          within = low;
-          same = same_more new same clean;
-          keeps = keeps_more new keeps;
-          clean = λ told. was.clean (clean told);
-          usable = usable;
-          faults = faults ∙ was.faults;
-        }
-
-    fills_on : FillsFile at (texts_behind at.count page) → FillsFile from texts
-    fills_on it =
-        let n = length (take it.count (texts_behind at.count page)) in
-        let part : take it.count (texts_behind at.count page) ≡ take n (drop done texts) =
-        take_shortened it.count more (texts_behind at.count page) (drop done texts) page_texts in
-        record {
-          count = done + n;
-          last = it.last;
-          spans =
-              subst (λ ls. Spans from ls it.last)
-              (ap (λ ls. ls ++ take it.count (texts_behind at.count page)) first_texts ∙ ap (λ ls. take done texts ++ ls) part ∙ both_taken done n texts)
-              (spans_more from at it.last (texts_behind from.count (take done lines)) (take it.count (texts_behind at.count page)) was.written.spans it.spans);
-          full = it.full;
-        }
-
-    -- why a page more was not written
-    pub page_refused : (within was_usable : Type 0) (new : D) (why : SealFault) → (within → IsTrue (g.is_clean new))
-        → IsWhyNotSealed (IsTrue (g.is_clean new) × (at.offset ≤ length (g.seen file))) (IsTrue (g.is_usable file)) (g.faults file) (g.faults new) at page why
-        → IsWhyNotSealed within was_usable (g.faults first) (g.faults new) from lines why
-    page_refused within was_usable new (fault.Io error) clean told = subst (λ n. MoreFaults n (g.faults new)) was.faults told
-    page_refused within was_usable new fault.Memory clean told = tt
-    page_refused within was_usable new fault.Unusable clean told = λ used. told was.usable
-    page_refused within was_usable new fault.Short clean told = λ there. told (clean there, reaches_on)
-    page_refused within was_usable new fault.OtherChain clean told = absurd told
-    page_refused within was_usable new fault.Broken clean told = absurd told
-    page_refused within was_usable new fault.Unfit clean told =
-        λ are. told (subst (All IsOneLine) (sym page_texts) (All-take IsOneLine more (drop done texts) (All-drop IsOneLine done texts are)))
-    page_refused within was_usable new fault.Full clean told = fills_on told
-    page_refused within was_usable new fault.Uncounted clean told = let n = place_is in let m = size in omega (arith, told, n, m, low)
-
--- the first page
-pub first_in : {D : Type 0} (g : Ghosts D) (from : Seal) (lines : List PastLine) (k : ℕ) (old new : D) (last : Seal) → k ≤ length lines
-    → HasWrittenIn (g.seen new) (g.may_leave new) from (take k lines) last
-    → All IsOneLine (texts_behind from.count (take k lines)) → All FitsPast (take k lines)
-    → last.count ≡ from.count + length (take k lines) → last.count < 2 ^ 64
-    → (IsTrue (g.is_clean new) → take from.offset (g.seen new) ≡ take from.offset (g.seen old))
-    → ((at : ℕ) (kept : List ℕ) → at + length kept ≤ from.offset
-    → Endures (g.seen old) (g.may_leave old) at kept → Endures (g.seen new) (g.may_leave new) at kept)
-    → (IsTrue (g.is_clean new) → IsTrue (g.is_clean old))
-    → IsTrue (g.is_usable new) → g.faults new ≡ g.faults old
-    → AreIn g from lines k old new last
-first_in g from lines k old new last low written one fit number counted same keeps clean usable faults =
-    let size = length-take k lines in
+held_alike : (at from : ℕ) (file other kept : List ℕ) → take at file ≡ take at other → from + length kept ≤ at
+    → Holds file from kept → Holds other from kept
+held_alike at from file other kept same low holds =
+    let was = length-take at file in
+    let is = length-take at other in
+    let sizes : length (take at file) ≡ length (take at other) = ap (λ (l : List ℕ). length l) same in
     record {
-      written = written;
-      one = one;
-      fit = fit;
-      number = omega (arith, number, size, low);
-      counted = counted;
-      within = low;
-      same = same;
-      keeps = keeps;
-      clean = clean;
-      usable = usable;
-      faults = faults;
+      within = omega (arith, holds.within, was, is, sizes, low);
+      each = λ i less.
+          sym (get_or-take at other (from + i) 0 (omega (arith, less, low)))
+          ∙ sym (ap (λ (l : List ℕ). slice_index_or l (from + i) 0) same)
+          ∙ get_or-take at file (from + i) 0 (omega (arith, less, low))
+          ∙ holds.each i less;
     }
 
-first_fills : (from : Seal) (k : ℕ) (lines : List PastLine) → FillsFile from (texts_behind from.count (take k lines)) → FillsFile from (texts_behind from.count lines)
-first_fills from k lines it =
-    let page = texts_behind from.count (take k lines) in
-    let all = texts_behind from.count lines in
-    let part : take it.count page ≡ take (length (take it.count page)) all = take_shortened it.count k page all (sym (texts_take from.count k lines)) in
-    record {
-      count = length (take it.count page);
-      last = it.last;
-      spans = subst (λ ls. Spans from ls it.last) part it.spans;
-      full = it.full;
-    }
+alike : (file other : List ℕ) (from : ℕ) (entry : List ℕ) → AreAlike file other (from + length entry) → HasEntryAt file from entry → HasEntryAt other from entry
+alike file other from entry like has =
+    elim like [
+      | inl same ↦ subst (λ f. HasEntryAt f from entry) same has
+      | inr part ↦ record {
+        bytes = held_alike part.0 from file other entry part.3 part.1 has.bytes;
+        closed = λ over. (let low = part.1 in let room = part.2 in absurd (omega (arith, over, low, room)));
+      }
+    ]
 
--- why the first page was not written
-pub first_refused : (within usable : Type 0) (old new : ℕ) (from : Seal) (k : ℕ) (lines : List PastLine) (why : SealFault)
-    → IsWhyNotSealed within usable old new from (take k lines) why → IsWhyNotSealed within usable old new from lines why
-first_refused within usable old new from k lines (fault.Io error) told = told
-first_refused within usable old new from k lines fault.Memory told = tt
-first_refused within usable old new from k lines fault.Unusable told = told
-first_refused within usable old new from k lines fault.Short told = told
-first_refused within usable old new from k lines fault.OtherChain told = absurd told
-first_refused within usable old new from k lines fault.Broken told = absurd told
-first_refused within usable old new from k lines fault.Unfit told =
-    λ are. told (subst (All IsOneLine) (texts_take from.count k lines) (All-take IsOneLine k (texts_behind from.count lines) are))
-first_refused within usable old new from k lines fault.Full told = first_fills from k lines told
-first_refused within usable old new from k lines fault.Uncounted told = let size = length-take k lines in omega (arith, told, size)
+module _ {D : Type 0} (g : Ghosts D) where
+  -- ---- what stays before a place
 
--- all pages
-pub all_in : {D : Type 0} (g : Ghosts D) (from : Seal) (lines : List PastLine) (done : ℕ) (first file : D) (last : Seal) → length lines ≤ done
-    → AreIn g from lines done first file last
-    → HasWrittenIn (g.seen file) (g.may_leave file) from lines last × All IsOneLine (texts_behind from.count lines) × All FitsPast lines
-    × (last.count ≡ from.count + length lines)
-all_in g from lines done first file last over was =
-    let all = take_all done lines over in
-    let low = was.within in
-    let n = was.number in (
-      subst (λ ls. HasWrittenIn (g.seen file) (g.may_leave file) from ls last) all was.written,
-      subst (λ ls. All IsOneLine (texts_behind from.count ls)) all was.one,
-      subst (All FitsPast) all was.fit,
-      (let e : last.count ≡ from.count + length lines = omega (arith, over, low, n) in e),
-    )
+  kept_less : (at there : ℕ) (old new : D) → at ≤ there → KeepsFile g there old new → KeepsFile g at old new
+  kept_less at there old new low keeps =
+      record {
+        before = λ from kept below was. keeps.before from kept (omega (arith, below, low)) was;
+        same = λ told.
+            sym (take-take at there (g.seen new) low) ∙ ap (take at) (keeps.same told) ∙ take-take at there (g.seen old) low;
+        clean = keeps.clean;
+      }
+
+  pub first_all : (P : D → Type 0) (xs ys : List D) → All P (xs ++ ys) → All P xs
+  first_all P xs ys all =
+      λ k d less.
+      let size = length-append xs ys in
+      subst P (get_or_append_left xs ys d k less) (all k d (omega (arith, less, size)))
+
+  -- more files leave those that were there
+  pub keeps_made : (place : Seal) (old more : List D) → KeepsFiles g place old (old ++ more)
+  keeps_made place old more =
+      let size = length-append old more in
+      record {
+        longer = omega (arith, size);
+        files = λ k d before less. get_or_append_left old more d k less;
+        here = λ d less.
+            subst (KeepsFile g place.offset (slice_index_or old place.number d)) (sym (get_or_append_left old more d place.number less))
+            (same_file g place.offset (slice_index_or old place.number d) (slice_index_or old place.number d) refl (λ c may. may) (λ clean. clean));
+        clean = first_all (λ d. IsTrue (g.is_clean d)) old more;
+      }
+
+  pub keeps_all : (place : Seal) (old new : List D) → new ≡ old → KeepsFiles g place old new
+  keeps_all place old new same = subst (KeepsFiles g place old) (append-nil old ∙ sym same) (keeps_made place old [])
+
+  pub keeps_on : (p q : Seal) (old mid new : List D) → Above p q → KeepsFiles g p old mid → KeepsFiles g q mid new → KeepsFiles g p old new
+  keeps_on p q old mid new up first later =
+      let a = first.longer in
+      let b = later.longer in
+      let number : p.number ≤ q.number =
+      elim up [
+        | inl less ↦ omega (arith, less)
+        | inr same ↦ let e = same.0 in omega (arith, e)
+      ] in
+      record {
+        longer = omega (arith, a, b);
+        files = λ k d before less.
+            later.files k d (omega (arith, before, number)) (omega (arith, less, a)) ∙ first.files k d before less;
+        here = λ d less.
+            let one = first.here d less in
+            elim up [
+              | inl before ↦
+                  subst (KeepsFile g p.offset (slice_index_or old p.number d)) (sym (later.files p.number d before (omega (arith, less, a)))) one
+              | inr same ↦
+                  let there = later.here d (let e = same.0 in omega (arith, less, a, e)) in
+                  let mine : KeepsFile g q.offset (slice_index_or mid p.number d) (slice_index_or new p.number d) =
+                  subst (λ n. KeepsFile g q.offset (slice_index_or mid n d) (slice_index_or new n d)) (sym same.0) there in
+                  then_kept g p.offset (slice_index_or old p.number d) (slice_index_or mid p.number d) (slice_index_or new p.number d) one
+                  (kept_less p.offset q.offset (slice_index_or mid p.number d) (slice_index_or new p.number d) same.1 mine)
+            ];
+        clean = λ told. first.clean (later.clean told);
+      }
+
+  -- a line before the place stays
+  entry_here : (at from : ℕ) (entry : List ℕ) (old new : D) → KeepsFile g at old new → from + length entry ≤ at → at < full
+      → EntryEndures (g.seen old) (g.may_leave old) from entry → EntryEndures (g.seen new) (g.may_leave new) from entry
+  entry_here at from entry old new keeps low room was =
+      let bytes : Endures (g.seen old) (g.may_leave old) from entry =
+      record { now = was.now.bytes; after_crash = λ left may. (was.after_crash left may).bytes } in
+      let is = keeps.before from entry low bytes in
+      record {
+        now = record { bytes = is.now; closed = λ over. absurd (omega (arith, over, low, room)) };
+        after_crash = λ left may. record { bytes = is.after_crash left may; closed = λ over. absurd (omega (arith, over, low, room)) };
+      }
+
+  module _ (at : Seal) (old new : List D) (keeps : KeepsFiles g (place_behind at) old new) where
+    -- a file of a line up to the seal is the same, or it is the one of the seal, which has room
+    before_at : (n : ℕ) → (end : ℕ) → IsUpTo n end at
+        → (n < (place_behind at).number) ⊎ ((n ≡ (place_behind at).number) × (end ≤ (place_behind at).offset) × ((place_behind at).offset < full))
+    before_at n end up =
+        elim (cases_lt at.offset full) [
+          | inl low ↦
+              let same = behind_other at low in
+              let number = ap (λ (s : Seal). s.number) same in
+              let offset = ap (λ (s : Seal). s.offset) same in
+              elim up [
+                | inl less ↦ inl (omega (arith, less, number))
+                | inr here ↦ let e = here.0 in let f = here.1 in inr (omega (arith, e, number), omega (arith, f, offset), omega (arith, low, offset))
+              ]
+          | inr over ↦
+              let number = ap (λ (s : Seal). s.number) (behind_full at over) in
+              inl (elim up [
+                | inl less ↦ omega (arith, less, number)
+                | inr here ↦ let e = here.0 in omega (arith, e, number)
+              ])
+        ]
+
+    entry_kept : (n from : ℕ) (entry : List ℕ) → IsUpTo n (from + length entry) at → InDisks g old n from entry → InDisks g new n from entry
+    entry_kept n from entry up has =
+        let more = keeps.longer in (
+          (let less = has.0 in omega (arith, less, more)),
+          λ d.
+              elim (before_at n (from + length entry) up) [
+                | inl before ↦
+                    subst (λ f. EntryEndures (g.seen f) (g.may_leave f) from entry) (sym (keeps.files n d before has.0)) (has.1 d)
+                | inr here ↦
+                    let less : (place_behind at).number < length old = (let e = here.0 in let l = has.0 in omega (arith, e, l)) in
+                    let was = subst (λ k. EntryEndures (g.seen (slice_index_or old k d)) (g.may_leave (slice_index_or old k d)) from entry) here.0 (has.1 d) in
+                    let is = entry_here (place_behind at).offset from entry (slice_index_or old (place_behind at).number d) (slice_index_or new (place_behind at).number d)
+                    (keeps.here d less) here.1 here.2 was in
+                    subst (λ k. EntryEndures (g.seen (slice_index_or new k d)) (g.may_leave (slice_index_or new k d)) from entry) (sym here.0) is
+              ],
+        )
+
+    -- lines up to the seal stay
+    pub lines_kept : (start : Seal) (lines : List (List ℕ)) → KeepLines g old start lines at → KeepLines g new start lines at
+    lines_kept start lines was =
+        record {
+          after = was.after;
+          filed = filed_kept (InDisks g old) (InDisks g new) start at lines was.after entry_kept was.filed;
+        }
+
+    -- and so does what is shown of them
+    module _ (clean : AreClean g new) (there : at.number < length old) (d : D) where
+      low_number : (n end : ℕ) → IsUpTo n end at → n < length old
+      low_number n end up =
+          elim up [
+            | inl less ↦ omega (arith, less, there)
+            | inr here ↦ let e = here.0 in omega (arith, e, there)
+          ]
+
+      shown_old : (n : ℕ) → n < length old → slice_index_or (all_shown g old) n [] ≡ g.seen (slice_index_or old n d)
+      shown_old n less = get_or-map (λ (f : D). g.seen f) old n d [] less
+
+      shown_new : (n : ℕ) → n < length old → slice_index_or (all_shown g new) n [] ≡ g.seen (slice_index_or new n d)
+      shown_new n less = let more = keeps.longer in get_or-map (λ (f : D). g.seen f) new n d [] (omega (arith, less, more))
+
+      is_clean_at : (n : ℕ) → n < length old → IsTrue (g.is_clean (slice_index_or new n d))
+      is_clean_at n less = let more = keeps.longer in clean n d (omega (arith, less, more))
+
+      same_at : (n from : ℕ) (entry : List ℕ) → IsUpTo n (from + length entry) at
+          → AreAlike (g.seen (slice_index_or new n d)) (g.seen (slice_index_or old n d)) (from + length entry)
+      same_at n from entry up =
+          let less = low_number n (from + length entry) up in
+          elim (before_at n (from + length entry) up) [
+            | inl before ↦ inl (ap (λ f. g.seen f) (keeps.files n d before less))
+            | inr here ↦
+                let o = (place_behind at).offset in
+                let low : (place_behind at).number < length old = (let e = here.0 in omega (arith, e, less)) in
+                let same = (keeps.here d low).same (is_clean_at (place_behind at).number low) in
+                inr (o, here.1, here.2, subst (λ k. take o (g.seen (slice_index_or new k d)) ≡ take o (g.seen (slice_index_or old k d))) (sym here.0) same)
+          ]
+
+      pub shown_on : (start : Seal) (lines : List (List ℕ)) → HaveLines (all_shown g old) start lines at → HaveLines (all_shown g new) start lines at
+      shown_on start lines was =
+          record {
+            after = was.after;
+            filed = filed_kept (InFiles (all_shown g old)) (InFiles (all_shown g new)) start at lines was.after
+                (λ n from entry up has.
+                let less = low_number n (from + length entry) up in
+                let mine = subst (λ f. HasEntryAt f from entry) (shown_old n less) has in
+                subst (λ f. HasEntryAt f from entry) (sym (shown_new n less))
+                (alike (g.seen (slice_index_or old n d)) (g.seen (slice_index_or new n d)) from entry (turned_same (same_at n from entry up)) mine))
+                was.filed;
+          }
+
+      pub shown_back : (start : Seal) (lines : List (List ℕ)) → HaveLines (all_shown g new) start lines at → HaveLines (all_shown g old) start lines at
+      shown_back start lines was =
+          record {
+            after = was.after;
+            filed = filed_kept (InFiles (all_shown g new)) (InFiles (all_shown g old)) start at lines was.after
+                (λ n from entry up has.
+                let less = low_number n (from + length entry) up in
+                let mine = subst (λ f. HasEntryAt f from entry) (shown_new n less) has in
+                subst (λ f. HasEntryAt f from entry) (sym (shown_old n less))
+                (alike (g.seen (slice_index_or new n d)) (g.seen (slice_index_or old n d)) from entry (same_at n from entry up) mine))
+                was.filed;
+          }

@@ -1,7 +1,10 @@
+pub mod Fitted
 pub mod Growing
-pub mod Pages
 pub mod Noting
 pub mod Onward
+pub mod Pages
+pub mod Putting
 pub mod Shows
+pub mod Steps
 pub mod Told
 pub mod Written

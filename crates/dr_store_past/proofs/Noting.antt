@@ -8,7 +8,8 @@ use Rattle.dr_ledger.specs.Books.{Line}
 use Rattle.dr_store_sealed.specs.declared.seal.Seal.{Seal}
 use Rattle.dr_store_sealed.specs.Seals.{first_seal}
 use Rattle.dr_store_past.specs.Places.{IsFar, IsNoted, IsPlaceBefore, NotesPlaces, spacing}
-use Rattle.dr_store_past.specs.Shown.{IsCleanPast, IsPlaceOf, ShowsPast}
+use Rattle.dr_store_past.specs.Lines.{texts_behind}
+use Rattle.dr_store_past.specs.Shown.{IsCleanPast, IsPlaceIn, ShowsPast}
 
 -- none but the beginning
 pub begun_at : (count : ℕ) (found : Seal) → found ≡ first_seal → IsPlaceBefore [] count found
@@ -92,61 +93,61 @@ module _ (places : List Seal) (place near : Seal) (it : IsPlaceBefore places pla
       omega (arith, own, narrow)
 
 -- nothing is noted yet
-pub none_noted : (True : Type 0) (seen : List ℕ) (seal : Seal) (places : List Seal)
-    → All (λ (p : Seal). p.offset ≤ seal.offset) places → NotesPlaces True seen seal places places
-none_noted True seen seal places within =
-    record { more = []; behind = sym (append-nil places); within = within; are = λ all told shows were. were }
+pub none_noted : (True : Type 0) (files : List (List ℕ)) (seal : Seal) (places : List Seal)
+    → All (λ (p : Seal). p.count ≤ seal.count) places → NotesPlaces True files seal places places
+none_noted True files seal places within =
+    record { more = []; behind = sym (append-nil places); within = within; are = λ all told it were. were }
 
-module _ (True Still : Type 0) (seen : List ℕ) (seal : Seal) (old mid : List Seal) (was : NotesPlaces True seen seal old mid) (before : Still → True) where
-  pub noted_so_far : NotesPlaces Still seen seal old mid
+module _ (True Still : Type 0) (files : List (List ℕ)) (seal : Seal) (old mid : List Seal) (was : NotesPlaces True files seal old mid) (before : Still → True) where
+  pub noted_so_far : NotesPlaces Still files seal old mid
   noted_so_far = record { more = was.more; behind = was.behind; within = was.within; are = λ all told. was.are all (before told) }
 
   -- a place more
-  pub noted_next : (place : Seal) (new : List Seal) → place.offset ≤ seal.offset
-      → ((all : List Line) → Still → ShowsPast all seen seal → All (IsPlaceOf seen) old → IsPlaceOf seen place)
-      → IsNoted mid place new → NotesPlaces Still seen seal old new
+  pub noted_next : (place : Seal) (new : List Seal) → place.count ≤ seal.count
+      → ((all : List Line) → Still → (it : ShowsPast all files seal) → All (IsPlaceIn (texts_behind 0 it.lines)) old → IsPlaceIn (texts_behind 0 it.lines) place)
+      → IsNoted mid place new → NotesPlaces Still files seal old new
   noted_next place new low is noted =
       elim noted [
         | inl far ↦
-            subst (NotesPlaces Still seen seal old) (sym far.1)
+            subst (NotesPlaces Still files seal old) (sym far.1)
             (record {
               more = was.more ++ place ∷ [];
               behind = ap (λ ps. ps ++ place ∷ []) was.behind ∙ append_assoc old was.more (place ∷ []);
-              within = All-push (λ (p : Seal). p.offset ≤ seal.offset) mid place was.within low;
-              are = λ all told shows were. All-push (IsPlaceOf seen) mid place (was.are all (before told) shows were) (is all told shows were);
+              within = All-push (λ (p : Seal). p.count ≤ seal.count) mid place was.within low;
+              are = λ all told it were.
+                  All-push (IsPlaceIn (texts_behind 0 it.lines)) mid place (was.are all (before told) it were) (is all told it were);
             })
-        | inr near ↦ subst (NotesPlaces Still seen seal old) (sym near.1) noted_so_far
+        | inr near ↦ subst (NotesPlaces Still files seal old) (sym near.1) noted_so_far
       ]
 
 -- what a noted place is of, before and after
-pub noted_known : (True : Type 0) (seen : List ℕ) (seal : Seal) (old new : List Seal) (place : Seal)
-    → NotesPlaces True seen seal old new → Contains old place → Contains new place
-noted_known True seen seal old new place notes known =
+pub noted_known : (True : Type 0) (files : List (List ℕ)) (seal : Seal) (old new : List Seal) (place : Seal)
+    → NotesPlaces True files seal old new → Contains old place → Contains new place
+noted_known True files seal old new place notes known =
     subst (λ ps. Contains ps place) (sym notes.behind) (Contains-append_left old notes.more place known)
 
-pub noted_were : (True : Type 0) (seen : List ℕ) (seal : Seal) (old new : List Seal) (P : Seal → Type 0)
-    → NotesPlaces True seen seal old new → All P new → All P old
-noted_were True seen seal old new P notes are =
+pub noted_were : (True : Type 0) (files : List (List ℕ)) (seal : Seal) (old new : List Seal) (P : Seal → Type 0)
+    → NotesPlaces True files seal old new → All P new → All P old
+noted_were True files seal old new P notes are =
     λ k d less.
     let whole = subst (All P) notes.behind are in
     let size = length-append old notes.more in
     subst P (get_or_append_left old notes.more d k less) (whole k d (omega (arith, less, size)))
 
-module _ (all : List Line) (H K : Type 0) (seen other : List ℕ) (seal : Seal) (old new : List Seal) (same : other ≡ seen) (notes : NotesPlaces H seen seal old new) where
+module _ (all : List Line) (H K : Type 0) (files other : List (List ℕ)) (seal : Seal) (old new : List Seal) (same : other ≡ files) (notes : NotesPlaces H files seal old new) where
   -- what is shown is the past after places were noted, and so it was before
-  pub clean_unread : (H → K) → IsCleanPast all H other seal new → IsCleanPast all K seen seal old
+  pub clean_unread : (H → K) → IsCleanPast all H other seal new → IsCleanPast all K files seal old
   clean_unread before it =
+      let was = subst (λ shown. IsCleanPast all H shown seal new) same it in
       record {
-        honest = before it.honest;
-        shows = subst (λ file. ShowsPast all file seal) same it.shows;
-        places = noted_were H seen seal old new (IsPlaceOf seen) notes (subst (λ file. All (IsPlaceOf file) new) same it.places);
+        honest = before was.honest;
+        shows = was.shows;
+        places = noted_were H files seal old new (IsPlaceIn (texts_behind 0 was.shows.lines)) notes was.places;
       }
 
   -- and the other way round
-  pub clean_read : H → IsCleanPast all K seen seal old → IsCleanPast all H other seal new
+  pub clean_read : H → IsCleanPast all K files seal old → IsCleanPast all H other seal new
   clean_read honest it =
-      record {
-        honest = honest;
-        shows = subst (λ file. ShowsPast all file seal) (sym same) it.shows;
-        places = subst (λ file. All (IsPlaceOf file) new) (sym same) (notes.are all honest it.shows it.places);
-      }
+      subst (λ shown. IsCleanPast all H shown seal new) (sym same)
+      (let is : IsCleanPast all H files seal new =
+      record { honest = honest; shows = it.shows; places = notes.are all honest it.shows it.places } in is)

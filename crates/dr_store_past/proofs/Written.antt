@@ -1,94 +1,22 @@
--- What appending leaves of a past's lines, and why it came to nothing.
-use Rattle.std.proofs.Common.{◌≡◌, ◌+◌, ◌-◌, ◌<◌, ◌≤◌, ℕ, List, length, take, All, IsTrue, refl, sym, ◌∙◌, ap, subst, arith, Result, Ok, Err, IsErr, IsErrAnd, IfErr, OnOk}
-use Rattle.std.proofs.lemmas.List.{take_all}
+-- Why a call on a past came to nothing, and what it left.
+use Rattle.std.proofs.Common.{◌≡◌, ◌<◌, ◌≤◌, ℕ, List, [], ◌∷◌, ◌++◌, length, slice_index_or, HoldsAt, sym, ap, subst, arith, Result, Ok, Err, IsErr, IsErrAnd, IfErr, IfOk, OnOk}
+use Rattle.std.proofs.lemmas.List.{get_or-map}
+use Rattle.dr_ledger.specs.Books.{Line}
 use Rattle.sqlite_disk.specs.declared.Disk.{Ghosts}
-use Rattle.sqlite_disk.specs.Disk.{MoreFaults}
-use Rattle.dr_store_sealed.specs.declared.fault.SealFault.{SealFault}
 use Rattle.dr_store_sealed.specs.declared.fault.SealFault.TheVariants as fault
 use Rattle.dr_store_sealed.specs.declared.seal.Seal.{Seal}
-use Rattle.dr_store_sealed.specs.Files.{Endures, Spans}
-use Rattle.dr_store_sealed.specs.Held.{IsWhyNotAdded}
-use Rattle.dr_store_sealed.specs.Lines.{IsOneLine, bytes_of}
-use Rattle.dr_store_sealed.specs.Seals.{TakesLines, full, lines_between}
-use Rattle.dr_store_sealed.proofs.SealLemmas.{count_after}
+use Rattle.dr_store_line_files.specs.Filed.{AreFiled, HaveLines, InFiles, place_behind}
+use Rattle.dr_store_sealed.specs.Seals.{first_seal, next_seal, seal_after}
+use Rattle.dr_store_line_files.specs.Several.{AreClean, AreUsable, KeepsFiles, all_faults, all_shown}
+use Rattle.dr_store_past.specs.declared.fault.PastFault.{PastFault}
+use Rattle.dr_store_past.specs.declared.fault.PastFault.TheVariants as reason
 use Rattle.dr_store_past.specs.declared.lines.PastLine.{PastLine}
 use Rattle.dr_store_past.specs.Counted.{texts_size}
 use Rattle.dr_store_past.specs.Lines.{texts_behind}
-use Rattle.dr_store_past.specs.declared.fault.PastFault.{PastFault}
-use Rattle.dr_store_past.specs.declared.fault.PastFault.TheVariants as reason
-use Rattle.dr_store_past.specs.Refusals.{FillsFile, IsWhyNoTexts, IsWhyNotSealed, IsWhyNotTold}
-use Rattle.dr_store_past.specs.Shown.{HasWrittenIn}
-
-module _ (from last : Seal) (lines : List PastLine) (texts : List (List ℕ)) (are : texts ≡ texts_behind from.count lines)
-    (takes : TakesLines from texts last) where
-  -- some were not taken
-  pub filled : last.count - from.count < length texts → FillsFile from (texts_behind from.count lines)
-  filled fewer =
-      record {
-        count = last.count - from.count;
-        last = last;
-        spans =
-            subst (λ ls. Spans from (take (last.count - from.count) ls) last) are
-            (let s : Spans from (take (last.count - from.count) texts) last = record { after = takes.after; one_file = takes.one_file } in s);
-        full = takes.full (omega (arith, fewer));
-      }
-
-  module _ (whole : length texts ≤ last.count - from.count) where
-    pub taken : lines_between from last texts ≡ texts_behind from.count lines
-    taken = take_all (last.count - from.count) texts whole ∙ are
-
-    pub counts_all : last.count ≡ from.count + length lines
-    counts_all =
-        ap (λ (s : Seal). s.count) takes.after ∙ count_after from (lines_between from last texts)
-        ∙ ap (λ ls. from.count + length ls) taken ∙ ap (λ k. from.count + k) (texts_size from.count lines)
-
-    pub is_written : (seen : List ℕ) (may : List ℕ → Type 0)
-        → Endures seen may from.offset (bytes_of from.chain (lines_between from last texts))
-        → HasWrittenIn seen may from lines last
-    is_written seen may put =
-        record {
-          spans =
-              subst (λ ls. Spans from ls last) taken
-              (let s : Spans from (lines_between from last texts) last = record { after = takes.after; one_file = takes.one_file } in s);
-          endures = subst (λ ls. Endures seen may from.offset (bytes_of from.chain ls)) taken put;
-        }
-
-    pub are_lines : All IsOneLine (lines_between from last texts) → All IsOneLine (texts_behind from.count lines)
-    are_lines one = subst (All IsOneLine) taken one
-
-pub texts_refused : (within usable : Type 0) (old new : ℕ) (from : Seal) (lines : List PastLine) (why : SealFault)
-    → IsWhyNoTexts from.count lines why → IsWhyNotSealed within usable old new from lines why
-texts_refused within usable old new from lines (fault.Io error) told = absurd told
-texts_refused within usable old new from lines fault.Memory told = tt
-texts_refused within usable old new from lines fault.Unusable told = absurd told
-texts_refused within usable old new from lines fault.Short told = absurd told
-texts_refused within usable old new from lines fault.OtherChain told = absurd told
-texts_refused within usable old new from lines fault.Broken told = absurd told
-texts_refused within usable old new from lines fault.Unfit told = absurd told
-texts_refused within usable old new from lines fault.Full told = absurd told
-texts_refused within usable old new from lines fault.Uncounted told = told
-
--- the first of no texts make a full file full
-is_full : (from : Seal) (texts : List (List ℕ)) → full ≤ from.offset → FillsFile from texts
-is_full from texts over =
-    record { count = 0; last = from; spans = record { after = refl; one_file = refl }; full = over }
-
-pub add_refused : {D : Type 0} (g : Ghosts D) (within : Type 0) (old : ℕ) (from : Seal) (lines : List PastLine) (texts : List (List ℕ)) (mid new : D)
-    → texts ≡ texts_behind from.count lines → g.faults mid ≡ old → IsTrue (g.is_usable mid) → (usable : Type 0) (why : SealFault)
-    → IsWhyNotAdded g from texts mid new why → IsWhyNotSealed within usable old (g.faults new) from lines why
-add_refused g within old from lines texts mid new are same can usable (fault.Io error) told = subst (λ n. MoreFaults n (g.faults new)) same told
-add_refused g within old from lines texts mid new are same can usable fault.Memory told = tt
-add_refused g within old from lines texts mid new are same can usable fault.Unusable told = λ used. told.0 can
-add_refused g within old from lines texts mid new are same can usable fault.Short told = absurd told
-add_refused g within old from lines texts mid new are same can usable fault.OtherChain told = absurd told
-add_refused g within old from lines texts mid new are same can usable fault.Broken told = absurd told
-add_refused g within old from lines texts mid new are same can usable fault.Unfit told =
-    λ one. told.0 (subst (All IsOneLine) (sym are) one)
-add_refused g within old from lines texts mid new are same can usable fault.Full told = is_full from (texts_behind from.count lines) told.0
-add_refused g within old from lines texts mid new are same can usable fault.Uncounted told =
-    let size = ap (λ (ls : List (List ℕ)). length ls) are ∙ texts_size from.count lines in
-    let over = told.0 in
-    omega (arith, size, over)
+use Rattle.dr_store_past.specs.Refusals.{IsWhyNotPut, IsWhyNotTold, IsWhyNotWritten}
+use Rattle.dr_store_past.specs.Shown.{IsCleanPast}
+use Rattle.dr_store_past.proofs.Growing.{shown_back, shown_on}
+use Rattle.dr_store_past.proofs.Shows.{clean_noted, clean_unnoted}
 
 -- what an error is of which it is known why
 pub err_told : {A E : Type 0} (P : E → Type 0) (r : Result A E) (why : E) → IsErr r × IsErrAnd r (λ e. e ≡ why) → P why → IfErr r P
@@ -99,18 +27,73 @@ pub err_map : {A E : Type 0} (P Q : E → Type 0) (r : Result A E) → ((e : E) 
 err_map P Q (Ok value) f h = tt
 err_map P Q (Err e) f h = f e h
 
--- the same under less
-pub sealed_under : (A B usable : Type 0) (old new : ℕ) (from : Seal) (lines : List PastLine) → (A → B) → (why : SealFault)
-    → IsWhyNotSealed B usable old new from lines why → IsWhyNotSealed A usable old new from lines why
-sealed_under A B usable old new from lines f (fault.Io error) h = h
-sealed_under A B usable old new from lines f fault.Memory h = tt
-sealed_under A B usable old new from lines f fault.Unusable h = h
-sealed_under A B usable old new from lines f fault.Short h = λ a. h (f a)
-sealed_under A B usable old new from lines f fault.OtherChain h = h
-sealed_under A B usable old new from lines f fault.Broken h = h
-sealed_under A B usable old new from lines f fault.Unfit h = h
-sealed_under A B usable old new from lines f fault.Full h = h
-sealed_under A B usable old new from lines f fault.Uncounted h = h
+-- ---- why lines were not written
+
+-- there is a disk, if there is one of that number
+some_disk : {D : Type 0} (disks : List D) (n : ℕ) → n < length disks → D
+some_disk [] n less = absurd (omega (arith, less))
+some_disk (d ∷ ds) n less = d
+
+module _ {D : Type 0} (g : Ghosts D) (all : List Line) (seal : Seal) (places : List Seal) (old new : List D)
+    (keeps : KeepsFiles g (place_behind seal) old new) (there : seal.number < length old) where
+  -- what is shown was the past before a write, and so it is after it
+  pub clean_unwritten : IsCleanPast all (AreClean g new) (all_shown g new) seal (places ++ seal ∷ []) → IsCleanPast all (AreClean g old) (all_shown g old) seal places
+  clean_unwritten it =
+      clean_unnoted all (AreClean g new) (AreClean g old) (all_shown g new) (all_shown g old) seal places (keeps.clean it.honest)
+      (λ lines has. shown_back g seal old new keeps it.honest there (some_disk old seal.number there) first_seal lines has) it
+
+  pub clean_written : AreClean g new → IsCleanPast all (AreClean g old) (all_shown g old) seal places
+      → IsCleanPast all (AreClean g new) (all_shown g new) seal (places ++ seal ∷ [])
+  clean_written clean it =
+      clean_noted all (AreClean g old) (AreClean g new) (all_shown g old) (all_shown g new) seal places clean
+      (λ lines has. shown_on g seal old new keeps clean there (some_disk old seal.number there) first_seal lines has) it
+
+  -- a file that shows the past reaches up to it
+  last_shown : (files : List (List ℕ)) (s last : Seal) (x : List ℕ) (xs : List (List ℕ)) → last ≡ seal_after s (x ∷ xs) → AreFiled (InFiles files) s (x ∷ xs)
+      → last.offset ≤ length (slice_index_or files last.number [])
+  last_shown files s last x [] after filed =
+      let next = next_seal s x in
+      let within = filed.0.bytes.within in
+      let n : last.number ≡ next.number = ap (λ (a : Seal). a.number) after in
+      let o : last.offset ≡ next.offset = ap (λ (a : Seal). a.offset) after in
+      subst (λ k. last.offset ≤ length (slice_index_or files k [])) (sym n)
+      (let e : last.offset ≤ length (slice_index_or files next.number []) = omega (arith, within, o) in e)
+  last_shown files s last x (y ∷ ys) after filed = last_shown files (next_seal s x) last y ys after filed.1
+
+  reaches : (lines : List (List ℕ)) → HaveLines (all_shown g old) first_seal lines seal → seal.offset ≤ length (slice_index_or (all_shown g old) seal.number [])
+  reaches [] has = (let e : seal.offset ≡ 0 = ap (λ (s : Seal). s.offset) has.after in omega (arith, e))
+  reaches (x ∷ xs) has = last_shown (all_shown g old) first_seal seal x xs has.after has.filed
+
+  never_short : IsCleanPast all (AreClean g new) (all_shown g new) seal (places ++ seal ∷ [])
+      → HoldsAt (λ disk. length (g.seen disk) < seal.offset) old seal.number → ⊥
+  never_short it short =
+      let d = some_disk old seal.number there in
+      let was = (clean_unwritten it).shows in
+      let low = reaches (texts_behind 0 was.lines) was.has in
+      let size : length (slice_index_or (all_shown g old) seal.number []) ≡ length (g.seen (slice_index_or old seal.number d)) =
+      ap (λ (l : List ℕ). length l) (get_or-map (λ (f : D). g.seen f) old seal.number d [] there) in
+      let less = short d in
+      omega (arith, low, size, less)
+
+  pub not_written : (takes : Type 0) (lines : List PastLine) (why : PastFault) → IsWhyNotPut g old new seal (texts_behind seal.count lines) why
+      → IsWhyNotWritten takes (IsCleanPast all (AreClean g new) (all_shown g new) seal (places ++ seal ∷ []))
+      (AreUsable g old) (all_faults g old) (all_faults g new) seal lines why
+  not_written takes lines (reason.File why) told = told
+  not_written takes lines (reason.Sealed (fault.Io error)) told = told
+  not_written takes lines (reason.Sealed fault.Memory) told = tt
+  not_written takes lines (reason.Sealed fault.Unusable) told = told
+  not_written takes lines (reason.Sealed fault.Short) told = λ clean. never_short clean (told clean.honest)
+  not_written takes lines (reason.Sealed fault.OtherChain) told = absurd told
+  not_written takes lines (reason.Sealed fault.Broken) told = absurd told
+  not_written takes lines (reason.Sealed fault.Unfit) told = told
+  not_written takes lines (reason.Sealed fault.Full) told = told
+  not_written takes lines (reason.Sealed fault.Uncounted) told =
+      let size = texts_size seal.count lines in omega (arith, told, size)
+  not_written takes lines reason.NoLine told = absurd told
+  not_written takes lines reason.Later told = absurd told
+  not_written takes lines reason.Nowhere told = absurd told
+
+-- ---- the same under less
 
 pub told_under : (A B usable : Type 0) (old new : ℕ) → (A → B) → (why : PastFault) → IsWhyNotTold B usable old new why → IsWhyNotTold A usable old new why
 told_under A B usable old new f (reason.File fault) h = h
@@ -130,3 +113,7 @@ told_under A B usable old new f reason.Nowhere h = h
 pub ok_map : {A E : Type 0} (P Q : Type 0) (r : Result A E) → (P → Q) → OnOk r P → OnOk r Q
 ok_map P Q (Ok value) f h = f h
 ok_map P Q (Err e) f h = tt
+
+pub if_map : {A E : Type 0} (P Q : A → Type 0) (r : Result A E) → ((a : A) → P a → Q a) → IfOk r P → IfOk r Q
+if_map P Q (Ok value) f h = f value h
+if_map P Q (Err e) f h = tt

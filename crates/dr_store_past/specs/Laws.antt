@@ -4,45 +4,41 @@ use Rattle.dr_ledger.specs.Books.{Adoption, Forgetting, Line}
 use Rattle.dr_ledger_history.specs.declared.line.JournalLine.TheVariants as told
 use Rattle.sqlite_disk.specs.declared.Disk.{Ghosts}
 use Rattle.dr_store_sealed.specs.declared.seal.Seal.{Seal}
-use Rattle.dr_store_sealed.specs.Files.{HasLines}
+use Rattle.dr_store_line_files.specs.Filed.{HaveLines, MayLeave}
 use Rattle.dr_store_sealed.specs.Seals.{first_seal}
 use Rattle.dr_store_past.specs.declared.lines.PastLine.{PastLine}
 use Rattle.dr_store_past.specs.Lines.{all_said, past_in, texts_behind}
-use Rattle.dr_store_past.specs.Shown.{HasWrittenIn, ShowsPast}
+use Rattle.dr_store_past.specs.Shown.{HaveWritten, ShowsPast}
 
--- a file shows one past up to a seal
+-- files show one past up to a seal
 abbrev pub ShowsOnePast : Type 0
 ShowsOnePast =
-    (all other : List Line) (seen : List ℕ) (seal : Seal)
-    → ShowsPast all seen seal → ShowsPast other seen seal
+    (all other : List Line) (files : List (List ℕ)) (seal : Seal)
+    → ShowsPast all files seal → ShowsPast other files seal
     → past_in all seal ≡ past_in other seal
 
--- the file has the lines up to the one seal, and up to the other
-pub record HasEither (left : List ℕ) (seal last : Seal) (before lines : List PastLine) : Type 0
-  where
-    pub old : HasLines left first_seal (texts_behind 0 before) seal
-    pub new : HasLines left first_seal (texts_behind 0 (before ++ lines)) last
+-- the files have the lines up to the one seal, and up to the other
+pub record HasEither
+    (left : List (List ℕ)) (seal last : Seal) (before lines : List PastLine) : Type 0 where
+  pub old : HaveLines left first_seal (texts_behind 0 before) seal
+  pub new : HaveLines left first_seal (texts_behind 0 (before ++ lines)) last
 
 module _ {D : Type 0} (g : Ghosts D) where
-  -- these lines are written in the file from the one seal to the other, now and after a crash
-  abbrev pub AreWritten : D → Seal → List PastLine → Seal → Type 0
-  AreWritten file from lines last = HasWrittenIn (g.seen file) (g.may_leave file) from lines last
-
   -- what is written behind a past goes on it
   abbrev pub WrittenGoesOn : Type 0
   WrittenGoesOn =
-      (file : D) (seal last : Seal) (before lines : List PastLine)
-      → AreWritten file first_seal before seal
-      → AreWritten file seal lines last
-      → AreWritten file first_seal (before ++ lines) last
+      (disks : List D) (seal last : Seal) (before lines : List PastLine)
+      → HaveWritten g disks first_seal before seal
+      → HaveWritten g disks seal lines last
+      → HaveWritten g disks first_seal (before ++ lines) last
 
   -- whatever a crash leaves then has the lines of either seal
   abbrev pub CrashLeavesEither : Type 0
   CrashLeavesEither =
-      (file : D) (left : List ℕ) (seal last : Seal) (before lines : List PastLine)
-      → AreWritten file first_seal before seal
-      → AreWritten file seal lines last
-      → g.may_leave file left
+      (disks : List D) (left : List (List ℕ)) (seal last : Seal) (before lines : List PastLine)
+      → HaveWritten g disks first_seal before seal
+      → HaveWritten g disks seal lines last
+      → MayLeave g disks left
       → HasEither left seal last before lines
 
 -- figures: two lines behind the fourth, and a past of the first of them

@@ -3,7 +3,8 @@ use Rattle.std.specs.Prelude.{◌≡◌, ◌⊎◌, ◌+◌, ◌≤◌, ℕ, Lis
 use Rattle.dr_ledger.specs.Books.{Line}
 use Rattle.dr_store_sealed.specs.declared.seal.Seal.{Seal}
 use Rattle.dr_store_sealed.specs.Seals.{first_seal}
-use Rattle.dr_store_past.specs.Shown.{IsPlaceOf, ShowsPast}
+use Rattle.dr_store_past.specs.Lines.{texts_behind}
+use Rattle.dr_store_past.specs.Shown.{IsPlaceIn, ShowsPast}
 
 -- so many lines lie between two places, at least, that are noted while lines are read
 abbrev pub spacing : ℕ
@@ -27,12 +28,13 @@ abbrev pub IsNoted : List Seal → Seal → List Seal → Type 0
 IsNoted old place new =
     (IsFar old place × (new ≡ old ++ place ∷ [])) ⊎ ((IsFar old place → ⊥) × (new ≡ old))
 
--- Places were noted behind those that were known. They are within the past, and lines begin there
--- if what is shown is the past, and what was seen is true.
-pub record NotesPlaces (True : Type 0) (seen : List ℕ) (seal : Seal) (old new : List Seal) : Type 0
-  where
-    pub more : List Seal
-    pub behind : new ≡ old ++ more
-    pub within : All (λ (place : Seal). place.offset ≤ seal.offset) new
-    pub are : (all : List Line) → True → ShowsPast all seen seal
-        → All (IsPlaceOf seen) old → All (IsPlaceOf seen) new
+-- Places were noted behind those that were known. None is behind the past, and they are those of
+-- its lines if what is shown is the past, and what was seen is true.
+pub record NotesPlaces (True : Type 0) (files : List (List ℕ)) (seal : Seal) (old new : List Seal)
+    : Type 0 where
+  pub more : List Seal
+  pub behind : new ≡ old ++ more
+  pub within : All (λ (place : Seal). place.count ≤ seal.count) new
+  pub are : (all : List Line) → True → (it : ShowsPast all files seal)
+      → All (IsPlaceIn (texts_behind 0 it.lines)) old
+      → All (IsPlaceIn (texts_behind 0 it.lines)) new

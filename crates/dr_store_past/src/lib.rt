@@ -11,6 +11,7 @@ mod files;
 pub mod laws;
 mod lines;
 mod none;
+mod opening;
 mod past;
 mod places;
 mod reading;

@@ -1,6 +1,6 @@
-//! Lines of a past, read from its file.
+//! Lines of a past, read from its files.
 ghost use Rattle.std.specs.Prelude.{◌≡◌, ◌+◌, ◌^◌, ◌<◌, ◌≤◌, ◌++◌, ℕ, List, drop, length, take};
-ghost use Rattle.std.specs.Prelude.{All, IfErr, IfOk, IsTrue, OnOk, Option};
+ghost use Rattle.std.specs.Prelude.{All, IfErr, IfOk, OnOk, Option};
 ghost use Rattle.dr_ledger.specs.Books.{Line};
 ghost use Rattle.dr_ledger_history.specs.Lines.{lines_of};
 ghost use Rattle.dr_store_past.specs.declared.lines.PastLine.{PastLine as LineValue};
@@ -8,7 +8,9 @@ ghost use Rattle.dr_store_past.specs.Lines.{IsHeldPast, all_said, past_in, texts
 ghost use Rattle.dr_store_past.specs.Paging.{IsPage, IsWhyNoLine, IsWhyNoPage};
 ghost use Rattle.dr_store_past.specs.Refusals.{IsWhyNotTold};
 ghost use Rattle.dr_store_past.specs.Places.{NotesPlaces};
-ghost use Rattle.dr_store_past.specs.Shown.{IsPlaceOf, ShowsPast};
+ghost use Rattle.dr_store_past.specs.Shown.{IsPastAt, IsPlaceIn, ShowsPast};
+ghost use Rattle.dr_store_line_files.specs.Filed.{InDisks};
+ghost use Rattle.dr_store_line_files.specs.Several.{AreClean, AreUsable, all_faults, all_shown};
 ghost use Rattle.dr_ledger_read.specs.Reading.{IsTextOf};
 
 use crate::fault::PastFault;
@@ -17,7 +19,8 @@ use dr_base::{Seq, Text};
 use dr_ledger_history::JournalLine;
 use dr_ledger_read::laws::a_text_is_read_in_one_way;
 use dr_ledger_read::read_sealed;
-use dr_store_sealed::{Seal, read_lines};
+use dr_store_line_files::read_next;
+use dr_store_sealed::{Seal, SealFault};
 use sqlite_disk::Disk;
 use std::alloc::Global;
 
@@ -78,36 +81,43 @@ fn pick_lines(
 /// They are read from the last place on that is noted before them, and further ones are noted.
 pub fn read_behind<D: Disk>(
     alloc: Global,
-    file: &mut D,
+    disks: &mut Vec<D>,
     places: &mut Vec<Seal>,
     seal: &Seal,
     after: u64,
     limit: usize,
 ) -> Result<Seq<JournalLine>, PastFault>
-    requires { All (λ place. place.offset ≤ seal.now.offset) places.old.items }
+    requires { All (λ place. place.count ≤ seal.now.count) places.old.items }
     ensures answer { IfOk result (λ found. (all : List Line)
-        → IsTrue (D.Disk.is_clean file.new) → ShowsPast all (D.Disk.seen file.old) seal.now
-        → All (IsPlaceOf (D.Disk.seen file.old)) places.old.items
+        → AreClean D.Disk disks.new.items
+        → (it : ShowsPast all (all_shown D.Disk disks.old.items) seal.now)
+        → All (IsPlaceIn (texts_behind 0 it.lines)) places.old.items
         → lines_of found ≡ take limit (drop after (past_in all seal.now))) }
-    ensures notes { NotesPlaces (IsTrue (D.Disk.is_clean file.new)) (D.Disk.seen file.old) seal.now
-        places.old.items places.new.items }
-    ensures shows { D.Disk.seen file.new ≡ D.Disk.seen file.old }
-    ensures leaves { (c : List ℕ) → D.Disk.may_leave file.new c → D.Disk.may_leave file.old c }
-    ensures clean { IsTrue (D.Disk.is_clean file.new) → IsTrue (D.Disk.is_clean file.old) }
+    ensures notes { NotesPlaces (AreClean D.Disk disks.new.items)
+        (all_shown D.Disk disks.old.items) seal.now places.old.items places.new.items }
+    ensures shows { all_shown D.Disk disks.new.items ≡ all_shown D.Disk disks.old.items }
+    ensures size { length disks.new.items ≡ length disks.old.items }
+    ensures keeps { (number at : ℕ) (entry : List ℕ)
+        → InDisks D.Disk disks.old.items number at entry
+        → InDisks D.Disk disks.new.items number at entry }
+    ensures clean { AreClean D.Disk disks.new.items → AreClean D.Disk disks.old.items }
     ensures why { IfErr result (λ fault. (all : List Line) → IsWhyNotTold
-        (IsTrue (D.Disk.is_clean file.new) × ShowsPast all (D.Disk.seen file.old) seal.now
-        × All (IsPlaceOf (D.Disk.seen file.old)) places.old.items)
-        (IsTrue (D.Disk.is_usable file.old))
-        (D.Disk.faults file.old) (D.Disk.faults file.new) fault) }
+        (AreClean D.Disk disks.new.items × IsPastAt all (all_shown D.Disk disks.old.items) seal.now
+        places.old.items)
+        (AreUsable D.Disk disks.old.items)
+        (all_faults D.Disk disks.old.items) (all_faults D.Disk disks.new.items) fault) }
 {
     let mut found = Seq::new(alloc);
     let mut at = place_before(places.as_slice(), after);
-    while at.offset < seal.offset {
+    while at.count < seal.count {
         if found.len() >= limit {
             return Ok(found);
         }
-        match read_lines(alloc, file, &at, seal.offset) {
+        match read_next(alloc, disks, &at, seal) {
             Ok((texts, next)) => {
+                if next.count > seal.count {
+                    return Err(PastFault::Sealed(SealFault::Broken));
+                }
                 pick_lines(alloc, &mut found, &texts, at.count, after, limit)?;
                 note_place(places, &next)?;
                 at = next;

@@ -1,37 +1,35 @@
-use Rattle.std.proofs.Common.{rules, ◌<◌, arith}
-use Rattle.dr_store_past.proofs.Shows.{clean_after, clean_before, clean_next, holds_more, written_onward}
+use Rattle.std.proofs.Common.{rules}
+use Rattle.dr_store_past.proofs.Shows.{clean_after, clean_before, clean_next, holds_more, written_up}
 use Rattle.dr_store_past.proofs.sealed.SealedFilesLedgerPast.turn_to.Goals as goal
 
-pub returns-then-last-self-clause-holds : goal.returns-then-last-self-clause-holds
-returns-then-last-self-clause-holds g c lines written before held =
-    holds_more _ _ c.args.self.now.seal before lines c.args.last.now held written.written
+pub returns-then-goes_on-clause-holds : goal.returns-then-goes_on-clause-holds
+returns-then-goes_on-clause-holds g c lines written before held =
+    holds_more g.F.Disk.Disk _ c.args.self.now.seal c.args.last.now before lines held written.written
 
-pub returns-then-last-self-clause-next : goal.returns-then-last-self-clause-next
-returns-then-last-self-clause-next g c lines written clean =
-    clean_next _ _ _ _ c.args.self.now.seal lines c.args.last.now written c.texts_are_of_one_line.ensures _ clean
+pub returns-then-goes_on-clause-next : goal.returns-then-goes_on-clause-next
+returns-then-goes_on-clause-next g c lines written clean =
+    clean_next g.F.Disk.Disk _ _ _ c.args.self.now.seal lines c.args.last.now written c.texts_are_of_one_line.ensures _ clean
 
-pub returns-then-last-self-clause-clean : goal.returns-then-last-self-clause-clean
-returns-then-last-self-clause-clean g c lines written clean =
-    clean_before _ _ _ _ c.args.self.now.seal lines c.args.last.now written c.texts_are_of_one_line.ensures _ _ clean.honest clean
+pub returns-then-goes_on-clause-clean : goal.returns-then-goes_on-clause-clean
+returns-then-goes_on-clause-clean g c lines written clean =
+    clean_before g.F.Disk.Disk _ _ _ c.args.self.now.seal lines c.args.last.now written c.texts_are_of_one_line.ensures _ _ clean.honest
+    c.args.self.now.within clean
 
-pub returns-then-last-self-clause-lasts : goal.returns-then-last-self-clause-lasts
-returns-then-last-self-clause-lasts g c lines written clean honest held next =
-    clean_after _ _ _ _ c.args.self.now.seal lines c.args.last.now written _ _ honest clean held next
+pub returns-then-goes_on-clause-lasts : goal.returns-then-goes_on-clause-lasts
+returns-then-goes_on-clause-lasts g c lines written clean honest held next =
+    clean_after g.F.Disk.Disk _ _ _ c.args.self.now.seal lines c.args.last.now written _ _ honest clean held next
 
-pub returns-else-last-self-clause-reach : goal.returns-else-last-self-clause-reach
-returns-else-last-self-clause-reach g c lines written =
-    let up = written_onward _ _ _ c.args.self.now.seal lines c.args.last.now written in
-    let low : c.args.last.now.offset < c.args.self.now.seal.offset = search rules in
-    absurd (omega (arith, up, low))
+pub returns-else-goes_on-clause-reach : goal.returns-else-goes_on-clause-reach
+returns-else-goes_on-clause-reach g c lines written =
+    let up = written_up g.F.Disk.Disk _ _ c.args.self.now.seal lines c.args.last.now written in
+    absurd (search rules)
 
-pub returns-else-last-self-clause-holds : goal.returns-else-last-self-clause-holds
-returns-else-last-self-clause-holds g c lines written before held =
-    let up = written_onward _ _ _ c.args.self.now.seal lines c.args.last.now written in
-    let low : c.args.last.now.offset < c.args.self.now.seal.offset = search rules in
-    absurd (omega (arith, up, low))
+pub returns-else-goes_on-clause-holds : goal.returns-else-goes_on-clause-holds
+returns-else-goes_on-clause-holds g c lines written before held =
+    let up = written_up g.F.Disk.Disk _ _ c.args.self.now.seal lines c.args.last.now written in
+    absurd (search rules)
 
-pub returns-else-last-self-clause-next : goal.returns-else-last-self-clause-next
-returns-else-last-self-clause-next g c lines written clean =
-    let up = written_onward _ _ _ c.args.self.now.seal lines c.args.last.now written in
-    let low : c.args.last.now.offset < c.args.self.now.seal.offset = search rules in
-    absurd (omega (arith, up, low))
+pub returns-else-goes_on-clause-next : goal.returns-else-goes_on-clause-next
+returns-else-goes_on-clause-next g c lines written clean =
+    let up = written_up g.F.Disk.Disk _ _ c.args.self.now.seal lines c.args.last.now written in
+    absurd (search rules)
